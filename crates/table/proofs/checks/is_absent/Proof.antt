@@ -1,0 +1,41 @@
+use Rattle.table.specs.Checks.{absent}
+use borrow.Author.Needs.{needs}
+use Rattle.table.proofs.checks.is_absent.Statement.{statement}
+use Rattle.table.proofs.checks.is_absent.Tie as tie
+use Rattle.table.proofs.checks.is_absent.Reads as reads
+use Rattle.table.proofs.checks.is_absent.Lts as lts
+use Rattle.table.proofs.checks.has_target.Reads as has-target-reads
+use Rattle.table.proofs.record.field_a.Reads as field-a-reads
+use Rattle.table.proofs.record.field_b.Reads as field-b-reads
+use Rattle.table.proofs.record.kind.Reads as kind-reads
+use Rattle.table.proofs.record.sort.Reads as sort-reads
+
+kind-requires : tie.Need-kind-requires
+kind-requires c κs = search needs
+
+field-a-requires : tie.Need-field-a-requires
+field-a-requires c κs = search needs
+
+field-b-requires : tie.Need-field-b-requires
+field-b-requires c κs = search needs
+
+sort-requires : tie.Need-sort-requires
+sort-requires c κs = search needs
+
+has-target-requires : tie.Need-has-target-requires
+has-target-requires c κs = search needs
+
+returns : tie.Need-returns
+unfolding absent
+returns c = cc
+
+pub is-absent-spec : {M : Type 1} → statement M
+is-absent-spec =
+    tie.close
+    (tie.spec
+    kind-requires
+    field-a-requires
+    field-b-requires
+    sort-requires
+    has-target-requires
+    returns)

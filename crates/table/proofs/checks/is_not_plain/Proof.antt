@@ -1,0 +1,40 @@
+use Rattle.table.specs.Checks.{notPlain}
+use borrow.Author.Needs.{needs}
+use Rattle.table.proofs.checks.is_not_plain.Statement.{statement}
+use Rattle.table.proofs.checks.is_not_plain.Tie as tie
+use Rattle.table.proofs.checks.is_not_plain.Reads as reads
+use Rattle.table.proofs.checks.is_not_plain.Lts as lts
+use Rattle.table.proofs.checks.node_sort.Reads as node-sort-reads
+use Rattle.table.proofs.record.field_a.Reads as field-a-reads
+use Rattle.table.proofs.record.field_b.Reads as field-b-reads
+use Rattle.table.proofs.record.kind.Reads as kind-reads
+
+field-a-requires : tie.Need-field-a-requires
+field-a-requires c κs = search needs
+
+node-sort-requires : tie.Need-node-sort-requires
+node-sort-requires c κs = search needs
+
+field-b-requires : tie.Need-field-b-requires
+field-b-requires c κs = search needs
+
+node-sort-requires-2 : tie.Need-node-sort-requires-2
+node-sort-requires-2 c κs = search needs
+
+kind-requires : tie.Need-kind-requires
+kind-requires c κs = search needs
+
+returns : tie.Need-returns
+unfolding notPlain
+returns c = cc
+
+pub is-not-plain-spec : {M : Type 1} → statement M
+is-not-plain-spec =
+    tie.close
+    (tie.spec
+    field-a-requires
+    node-sort-requires
+    field-b-requires
+    node-sort-requires-2
+    kind-requires
+    returns)

@@ -1,0 +1,20 @@
+use native.Mathlib.Omega.{arith}
+use Rattle.table.proofs.Below.{functions-fit}
+use borrow.Author.Needs.{needs}
+use Rattle.table.proofs.checks.owner.Statement.{statement}
+use Rattle.table.proofs.checks.owner.Tie as tie
+use Rattle.table.proofs.checks.owner.Reads as reads
+use Rattle.table.proofs.checks.owner.Lts as lts
+use Rattle.table.proofs.record.field_a.Reads as field-a-reads
+
+add-field-a : tie.Need-add-field-a
+add-field-a c = omega (arith, functions-fit (c .before .before .args .t .now), c .before .before .pre .0 .functions-are)
+
+field-a-requires : tie.Need-field-a-requires
+field-a-requires c κs = search needs
+
+returns : tie.Need-returns
+returns c = cc
+
+pub owner-spec : {M : Type 1} → statement M
+owner-spec = tie.close (tie.spec add-field-a field-a-requires returns)
