@@ -2,36 +2,31 @@
 use Prim.Native.Nat.{ℕ, zero, suc, _+_, _<_, _≤_}
 use mathlib.Core.Path.{_≡_, refl, sym, ap, _∙_, subst}
 use mathlib.Core.List.{List}
-use mathlib.Core.Bool.{Bool, true, false, true≢false, not, cond, _||_}
+use mathlib.Core.Bool.{Bool, true, false, not, cond, _&&_, _||_}
 use mathlib.Core.Logic.{_⊎_, inl, inr, ⊎-elim}
-use mathlib.Core.Option.{Option, none, some, orElse, Option·none-ne-some}
+use mathlib.Core.Option.{Option, none, some, orElse, Option·some-ne-none}
 use native.Mathlib.Nat.{eq-or-lt-of-le}
 use native.Mathlib.Omega.{arith}
 use native.Mathlib.Numerals.{add-one}
-use lib.Dec.{leb}
-use borrow.Author.Tests.{leb-true, leb-false}
+use lib.Dec.{leb, ltb}
+use borrow.Author.Tests.{leb-true, leb-false, lt-ltb, le-ltb}
 use borrow.Author.Count.{below-more}
 use Rattle.table.specs.Below.{earliest, any, count}
 use Rattle.table.specs.Record.{records, isFunction, functions}
 use Rattle.table.specs.Scan.{First}
+use Rattle.table.proofs.Booleans.{either-way, not-both, or-true, and-false-right}
 
 -- below a bound, and one more: the last one or one before it
 pub last-or-before : (k n : ℕ) → k < suc n → (k ≡ n) ⊎ (k < n)
 last-or-before k n h = eq-or-lt-of-le (omega arith)
 
--- a Boolean is one of two
-pub either-way : (b : Bool) → (b ≡ true) ⊎ (b ≡ false)
-either-way true = inl refl
-either-way false = inr refl
-
-pub or-true : (b : Bool) → (b || true) ≡ true
-or-true true = refl
-or-true false = refl
-
-pub not-both : {A : Type 0} (b : Bool) → b ≡ true → b ≡ false → A
-not-both b t f = absurd (true≢false (sym t ∙ f))
-
 -- ---- earliest
+
+neither : (o : Option ℕ) (b : Bool) (n : ℕ) → orElse o (cond b (some n) none) ≡ none → (o ≡ none) × (b ≡ false)
+unfolding orElse
+neither none true n e = absurd (Option·some-ne-none n e)
+neither none false n e = (refl, refl)
+neither (some p) b n e = absurd (Option·some-ne-none p e)
 
 module _ (f : ℕ → Bool) where
   -- none passes: none is found, and the other way round
@@ -39,6 +34,13 @@ module _ (f : ℕ → Bool) where
   unfolding earliest orElse
   earliest-none zero h = refl
   earliest-none (suc n) h = rw (earliest-none n (λ k l. h k (omega arith)), h n (omega arith)) refl
+
+  pub earliest-passed : (n : ℕ) → earliest f n ≡ none → (k : ℕ) → k < n → f k ≡ false
+  unfolding earliest orElse
+  earliest-passed zero e k h = absurd (omega arith)
+  earliest-passed (suc n) e k h =
+      let w = neither (earliest f n) (f n) n e in
+      ⊎-elim (λ (i : k ≡ n). ap f i ∙ w .1) (λ (l : k < n). earliest-passed n (w .0) k l) (last-or-before k n h)
 
   -- the least one that passes is found, however far the search goes on
   pub earliest-some : (n r : ℕ) → r < n → ((k : ℕ) → k < r → f k ≡ false) → f r ≡ true → earliest f n ≡ some r
@@ -142,6 +144,60 @@ count-le f (suc n) = omega (arith, count-le f n, at-most-one (f n))
 pub count-more : (f : ℕ → Bool) (n : ℕ) → count f (n + 1) ≡ count f n + cond (f n) 1 0
 unfolding count
 count-more f n = rw add-one refl
+
+-- with at most L before each that passes, there are at most L
+pub count-limit : (f : ℕ → Bool) (limit n : ℕ) → ((k : ℕ) → k < n → (f k && leb limit (count f k)) ≡ false) → count f n ≤ limit
+unfolding count
+count-limit f limit zero h = omega arith
+count-limit f limit (suc n) h = go (f n) (h n (omega arith)) (count-limit f limit n (λ k l. h k (omega arith)))
+  where
+    go : (b : Bool) → (b && leb limit (count f n)) ≡ false → count f n ≤ limit → count f n + cond b 1 0 ≤ limit
+    go true e le = omega (arith, leb-false limit (count f n) e)
+    go false e le = omega arith
+
+pub count-same : (f g : ℕ → Bool) (n : ℕ) → ((k : ℕ) → k < n → f k ≡ g k) → count f n ≡ count g n
+unfolding count
+count-same f g zero e = refl
+count-same f g (suc n) e = rw (count-same f g n (λ k l. e k (omega arith)), e n (omega arith)) refl
+
+-- the count of what either of two tests passes, where no number passes both
+pub count-sum : (f g h : ℕ → Bool) (n : ℕ) → ((k : ℕ) → k < n → cond (f k) 1 0 + cond (g k) 1 0 ≡ cond (h k) 1 0) → count f n + count g n ≡ count h n
+unfolding count
+count-sum f g h zero e = refl
+count-sum f g h (suc n) e = omega (arith, count-sum f g h n (λ k l. e k (omega arith)), e n (omega arith))
+
+pub count-all : (f : ℕ → Bool) (n : ℕ) → ((k : ℕ) → k < n → f k ≡ true) → count f n ≡ n
+unfolding count
+count-all f zero h = refl
+count-all f (suc n) h = rw (h n (omega arith)) (omega (arith, count-all f n (λ k l. h k (omega arith))))
+
+-- A test that passes wherever it passes later: it passes at the numbers below its count, and at no others.
+module _ (f : ℕ → Bool) where
+  abbrev pub Downward : ℕ → Type 0
+  Downward n = (k : ℕ) → suc k < n → f (suc k) ≡ true → f k ≡ true
+
+  downward-all : (n : ℕ) → Downward (suc n) → f n ≡ true → (k : ℕ) → k < suc n → f k ≡ true
+  downward-all zero d t k h = subst (λ (m : ℕ). f m ≡ true) (omega arith) t
+  downward-all (suc n) d t k h =
+      ⊎-elim
+      (λ (e : k ≡ suc n). ap f e ∙ t)
+      (λ (l : k < suc n). downward-all n (λ m b. d m (omega arith)) (d n (omega arith) t) k l)
+      (last-or-before k (suc n) h)
+
+  pub count-below : (n k : ℕ) → Downward n → k < n → f k ≡ ltb k (count f n)
+  unfolding count
+  count-below zero k d h = absurd (omega arith)
+  count-below (suc n) k d h = go (f n) refl (count-below n k (λ m b. d m (omega arith)))
+    where
+      go : (b : Bool) → f n ≡ b → (k < n → f k ≡ ltb k (count f n)) → f k ≡ ltb k (count f n + cond b 1 0)
+      go true e ih =
+          let all = downward-all n d e in
+          all k h ∙ sym (lt-ltb k (count f n + 1) (omega (arith, count-all f n (λ m b. all m (omega arith)))))
+      go false e ih =
+          ⊎-elim
+          (λ (i : k ≡ n). ap f i ∙ e ∙ sym (le-ltb k (count f n + 0) (omega (arith, count-le f n))))
+          (λ (l : k < n). ih l ∙ ap (λ (m : ℕ). ltb k m) (omega arith))
+          (last-or-before k n h)
 
 -- there are no more functions than records
 pub functions-fit : (t : List ℕ) → functions t ≤ records t

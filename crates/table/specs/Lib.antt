@@ -5,5 +5,7 @@ pub mod Record
 pub mod Checks
 pub mod Answer
 pub mod Program
+pub mod WellFormed
+pub mod SameButEdges
 -- What only helps proofs.
 pub mod Scan
