@@ -3,7 +3,7 @@ use Prim.Native.Nat.{ℕ, zero, suc, _+_, _<_, _≤_}
 use mathlib.Core.Path.{_≡_, refl, sym, ap, _∙_, subst}
 use mathlib.Core.List.{List}
 use mathlib.Core.Bool.{Bool, true, false, not, cond, _&&_, _||_}
-use mathlib.Core.Logic.{_⊎_, inl, inr, ⊎-elim}
+use mathlib.Core.Logic.{_⊎_, ⊎-elim}
 use mathlib.Core.Option.{Option, none, some, orElse, Option·some-ne-none}
 use native.Mathlib.Nat.{eq-or-lt-of-le}
 use native.Mathlib.Omega.{arith}
@@ -14,7 +14,7 @@ use borrow.Author.Count.{below-more}
 use Rattle.table.specs.Below.{earliest, any, count}
 use Rattle.table.specs.Record.{records, isFunction, functions}
 use Rattle.table.specs.Scan.{First}
-use Rattle.table.proofs.Booleans.{either-way, not-both, or-true, and-false-right}
+use Rattle.table.proofs.Booleans.{either-way, not-both, or-true}
 
 -- below a bound, and one more: the last one or one before it
 pub last-or-before : (k n : ℕ) → k < suc n → (k ≡ n) ⊎ (k < n)

@@ -1,6 +1,11 @@
--- Laws of the Boolean connectives; of the numbers below a bound, for any test; of a list of checks, for any checks.
+-- For the crates above: the laws of this one, and laws of tests, of numbers below a bound and of lists of checks that hold for any.
+pub mod Laws
 pub mod Booleans
 pub mod Below
 pub mod Refusals
-pub mod Rows
-pub mod Laws
+-- How the laws come about.
+mod Rows
+mod Program
+mod Accepted
+mod SameButEdges
+mod Answer

@@ -1,20 +1,17 @@
 -- What is known of the records of an accepted table: no check applies, and functions stand first, then nodes, then edges.
-use Prim.Native.Nat.{ℕ, zero, suc, _+_, _*_, _/_, _%_, _<_, _≤_}
+use Prim.Native.Nat.{ℕ, suc, _+_, _<_, _≤_}
 use mathlib.Core.Path.{_≡_, refl, sym, ap, _∙_, subst}
 use mathlib.Core.List.{List, List·Memᴰ, List·Memᴰ·head, List·Memᴰ·tail}
-use mathlib.Core.Bool.{Bool, true, false, true≢false, cond, not, _&&_, _||_}
+use mathlib.Core.Bool.{Bool, true, false, true≢false, cond}
 use mathlib.Core.Logic.{_⊎_, inl, inr, ⊎-elim}
 use mathlib.Core.Option.{none, some, Option·some-ne-none}
 use native.Mathlib.Omega.{arith}
-use lib.Dec.{eqb, leb, ltb}
-use lib.ListN.{length}
-use borrow.Author.Tests.{eqb-true, ltb-true, ltb-false, leb-false, lt-ltb, le-ltb, not-false}
-use Rattle.table.specs.Below.{earliest, any, count}
-use Rattle.table.specs.Refusal.{Check}
-use Rattle.table.specs.Record.{records, kindOf, isFunction, isNode, isEdge, functions, nodes, edges}
-use Rattle.table.specs.Checks.{checks, Accepted, each, whole, broken, unlisted, outOfOrder, tooMany, noEntry, absent, foreign, notPlain}
-use Rattle.table.proofs.Booleans.{either-way, not-both, or-false-left, or-false-right, and-true-left}
-use Rattle.table.proofs.Below.{earliest-passed, count-same, count-sum, count-all, count-below, count-limit}
+use lib.Dec.{eqb, ltb}
+use borrow.Author.Tests.{eqb-true, ltb-true, ltb-false, lt-ltb, le-ltb}
+use Rattle.table.specs.Below.{count}
+use Rattle.table.specs.Record.{records, kindOf, functions, nodes, edges}
+use Rattle.table.specs.Checks.{checks, Accepted, ofRecord, ofTable, broken, unlisted, outOfOrder, tooMany, noEntry, absent, foreign, notPlain}
+use Rattle.table.proofs.Below.{earliest-passed, count-same, count-sum, count-all, count-below}
 use Rattle.table.proofs.Refusals.{refusal-none}
 
 ruleset in-list = (List·Memᴰ·head, List·Memᴰ·tail)
@@ -25,43 +22,43 @@ not-applied false p e = refl
 
 module _ (t : List ℕ) (ok : Accepted t) where
   -- a row of the list does not apply; where it stands in the list does not matter
-  each-passed : (n : ℕ) (test : List ℕ → ℕ → Bool) → List·Memᴰ (record { number = n; place = each test }) checks → (r : ℕ) → r < records t → test t r ≡ false
-  each-passed n test m = earliest-passed (test t) (records t) (refusal-none t checks ok _ m)
+  record-passed : (n : ℕ) (test : List ℕ → ℕ → Bool) → List·Memᴰ (record { number = n; place = ofRecord test }) checks → (r : ℕ) → r < records t → test t r ≡ false
+  record-passed n test m = earliest-passed (test t) (records t) (refusal-none t checks ok _ m)
 
-  whole-passed : (n : ℕ) (test : List ℕ → Bool) (place : List ℕ → ℕ) → List·Memᴰ (record { number = n; place = whole test place }) checks → test t ≡ false
-  whole-passed n test place m = not-applied (test t) (place t) (refusal-none t checks ok _ m)
+  table-passed : (n : ℕ) (test : List ℕ → Bool) (place : List ℕ → ℕ) → List·Memᴰ (record { number = n; place = ofTable test place }) checks → test t ≡ false
+  table-passed n test place m = not-applied (test t) (place t) (refusal-none t checks ok _ m)
 
   pub not-broken : broken t ≡ false
   unfolding checks
-  not-broken = whole-passed 1 broken records (search in-list depth 40)
+  not-broken = table-passed 1 broken records (search in-list depth 40)
 
   pub all-listed : (r : ℕ) → r < records t → unlisted t r ≡ false
   unfolding checks
-  all-listed = each-passed 2 unlisted (search in-list depth 40)
+  all-listed = record-passed 2 unlisted (search in-list depth 40)
 
   pub all-in-order : (r : ℕ) → r < records t → outOfOrder t r ≡ false
   unfolding checks
-  all-in-order = each-passed 3 outOfOrder (search in-list depth 40)
+  all-in-order = record-passed 3 outOfOrder (search in-list depth 40)
 
   pub none-too-many : (r : ℕ) → r < records t → tooMany t r ≡ false
   unfolding checks
-  none-too-many = each-passed 4 tooMany (search in-list depth 40)
+  none-too-many = record-passed 4 tooMany (search in-list depth 40)
 
   pub has-entry : noEntry t ≡ false
   unfolding checks
-  has-entry = whole-passed 5 noEntry (λ t. 0) (search in-list depth 40)
+  has-entry = table-passed 5 noEntry (λ t. 0) (search in-list depth 40)
 
   pub none-absent : (r : ℕ) → r < records t → absent t r ≡ false
   unfolding checks
-  none-absent = each-passed 6 absent (search in-list depth 40)
+  none-absent = record-passed 6 absent (search in-list depth 40)
 
   pub none-foreign : (r : ℕ) → r < records t → foreign t r ≡ false
   unfolding checks
-  none-foreign = each-passed 7 foreign (search in-list depth 40)
+  none-foreign = record-passed 7 foreign (search in-list depth 40)
 
   pub all-plain : (r : ℕ) → r < records t → notPlain t r ≡ false
   unfolding checks
-  all-plain = each-passed 8 notPlain (search in-list depth 40)
+  all-plain = record-passed 8 notPlain (search in-list depth 40)
 
   -- ---- the order of kinds
 

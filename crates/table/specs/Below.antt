@@ -1,6 +1,6 @@
 -- The numbers below a bound: the least that passes a test, whether one does, and how many do.
 use Prim.Native.Nat.{ℕ, zero, suc, _+_}
-use mathlib.Core.Bool.{Bool, true, false, cond, _||_}
+use mathlib.Core.Bool.{Bool, false, cond, _||_}
 use mathlib.Core.Option.{Option, none, some, orElse}
 
 -- the least number below n that passes the test, if one does

@@ -1,5 +1,5 @@
--- Document 01, "Refused tables": the checks on the table itself. Each row is a definition of its own; `checks` lists them in order.
--- Those of a record are tests that make sense on every record, whatever the checks before them would say of the table.
+-- Document 01, "Refused tables": the checks on the table itself. Each condition is a definition of its own, and `checks` lists the rows.
+-- A condition on a record makes sense for every record of every table, whatever the rows before it say.
 use Prim.Native.Nat.{ℕ, zero, suc, _%_}
 use mathlib.Core.Path.{_≡_}
 use mathlib.Core.List.{List, [], _∷_}
@@ -8,16 +8,20 @@ use mathlib.Core.Option.{Option, none, some}
 use lib.Dec.{eqb, leb, ltb}
 use lib.ListN.{length}
 use Rattle.table.specs.Below.{earliest, any, count}
-use Rattle.table.specs.Refusal.{Check, Refusal, refusal}
-use Rattle.table.specs.Record.{records, kindOf, sortOf, fieldA, fieldB, fieldC, isFunction, isNode, isEdge, functions, nodes, nodeOwner, nodeSort, isEntry, plain, hasTarget}
+use Rattle.table.specs.Refusal.{Check, refusal}
+use Rattle.table.specs.Record.{records, kindOf, sortOf, fieldA, fieldB, fieldC, isFunction, isNode, isEdge, functions, nodes, nodeOwner, nodeSort, isEntry, plain, sync, hasTarget}
+
+-- 1: "length no multiple of 8"
+unfoldable pub broken : List ℕ → Bool
+broken t = not (eqb (length t % 8) 0)
 
 -- 2: "kind or sort not listed, or a field that must be 0 isn't"
--- Of a function sort 0 and 1 are listed; of a node 0 to 3, where b is the target of a call or spawn, else 0, and c is 0; of an edge 0, where c is 0.
+-- Listed are: function, sort 0 or 1; node, sort 0 to 3, with b 0 unless it is a call or spawn, and c 0; edge, sort 0, with c 0.
 unfoldable pub unlisted : List ℕ → ℕ → Bool
 unlisted t r =
     not
     ((isFunction t r && leb (sortOf t r) 1)
-    || (isNode t r && leb (sortOf t r) 3 && (hasTarget (sortOf t r) || eqb (fieldB t r) 0) && eqb (fieldC t r) 0)
+    || (isNode t r && leb (sortOf t r) sync && (hasTarget (sortOf t r) || eqb (fieldB t r) 0) && eqb (fieldC t r) 0)
     || (isEdge t r && eqb (sortOf t r) 0 && eqb (fieldC t r) 0))
 
 -- 3: "kind lower than that of the record before"
@@ -54,29 +58,25 @@ foreign t r =
 unfoldable pub notPlain : List ℕ → ℕ → Bool
 notPlain t r = isFunction t r && not (eqb (nodeSort t (fieldA t r)) plain && eqb (nodeSort t (fieldB t r)) plain)
 
--- A row whose place is fixed, and one whose place is "the record": the earliest where the test passes.
-abbrev pub whole : (List ℕ → Bool) → (List ℕ → ℕ) → List ℕ → Option ℕ
-whole test place t = cond (test t) (some (place t)) none
+-- A row about the table as a whole has one place; of a row about a record the place is "the record", the earliest one.
+abbrev pub ofTable : (List ℕ → Bool) → (List ℕ → ℕ) → List ℕ → Option ℕ
+ofTable condition place t = cond (condition t) (some (place t)) none
 
-abbrev pub each : (List ℕ → ℕ → Bool) → List ℕ → Option ℕ
-each test t = earliest (test t) (records t)
-
--- 1: "length no multiple of 8 | count of whole records"
-abbrev pub broken : List ℕ → Bool
-broken t = not (eqb (length t % 8) 0)
+abbrev pub ofRecord : (List ℕ → ℕ → Bool) → List ℕ → Option ℕ
+ofRecord condition t = earliest (condition t) (records t)
 
 unfoldable pub checks : List (Check (List ℕ))
 checks =
-    record { number = 1; place = whole broken records }
-    ∷ record { number = 2; place = each unlisted }
-    ∷ record { number = 3; place = each outOfOrder }
-    ∷ record { number = 4; place = each tooMany }
-    ∷ record { number = 5; place = whole noEntry (λ t. 0) }
-    ∷ record { number = 6; place = each absent }
-    ∷ record { number = 7; place = each foreign }
-    ∷ record { number = 8; place = each notPlain }
+    record { number = 1; place = ofTable broken records }
+    ∷ record { number = 2; place = ofRecord unlisted }
+    ∷ record { number = 3; place = ofRecord outOfOrder }
+    ∷ record { number = 4; place = ofRecord tooMany }
+    ∷ record { number = 5; place = ofTable noEntry (λ t. 0) }
+    ∷ record { number = 6; place = ofRecord absent }
+    ∷ record { number = 7; place = ofRecord foreign }
+    ∷ record { number = 8; place = ofRecord notPlain }
     ∷ []
 
--- "A table is accepted if none of the checks on the table itself applies to it."
+-- "A table is accepted if none of the checks on the table itself [..] applies to it."
 abbrev pub Accepted : List ℕ → Type 0
 Accepted t = refusal checks t ≡ none

@@ -1,5 +1,5 @@
 -- The program that a table describes: what every crate above is stated over. The order and the repetition of edge records do not show in it.
-use Prim.Native.Nat.{ℕ, _+_}
+use Prim.Native.Nat.{ℕ}
 use mathlib.Core.List.{List}
 use mathlib.Core.Bool.{Bool, cond, _&&_}
 use lib.Dec.{eqb, ltb}

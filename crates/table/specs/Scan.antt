@@ -1,13 +1,12 @@
--- For the contracts of the loops: what a pass over the records finds. Helps proofs only.
+-- For the contracts of the passes over the records. Helps proofs only: no public promise rests on it.
 use Prim.Native.Nat.{ℕ, _<_, _≤_}
 use mathlib.Core.Path.{_≡_}
 use mathlib.Core.List.{List}
 use mathlib.Core.Bool.{Bool, true, false, _&&_}
 use lib.Dec.{eqb, leb}
 use Rattle.table.specs.Below.{count}
-use Rattle.table.specs.Record.{kindOf, functions, nodes, edges, isEntry}
+use Rattle.table.specs.Record.{kindOf, isEntry}
 use Rattle.table.specs.Checks.{unlisted, outOfOrder, absent, foreign, notPlain}
-use Rattle.table.specs.declared.Counts.{Counts}
 use Rattle.table.specs.declared.Test.{Test}
 use Rattle.table.specs.declared.Test.the-variants.{Unlisted, OutOfOrder, Entry, Absent, Foreign, NotPlain}
 
@@ -32,9 +31,3 @@ ofKind t k r = eqb (kindOf t r) k
 
 abbrev pub surplusOf : List ℕ → ℕ → ℕ → ℕ → Bool
 surplusOf t k limit r = ofKind t k r && leb limit (count (ofKind t k) r)
-
--- c holds the table's counts
-pub record CountsOf (t : List ℕ) (c : Counts) : Type 0 where
-  pub functions-are : c .functions ≡ functions t
-  pub nodes-are : c .nodes ≡ nodes t
-  pub edges-are : c .edges ≡ edges t

@@ -10,7 +10,8 @@ ghost use mathlib.Core.Path.{_≡_};
 ghost use Prim.Native.Nat.{_<_};
 ghost use Rattle.table.specs.Record.{nodeOwner, nodeSort, isEntry, hasTarget};
 ghost use Rattle.table.specs.Checks.{unlisted, outOfOrder, absent, foreign, notPlain};
-ghost use Rattle.table.specs.Scan.{testOf, CountsOf};
+ghost use Rattle.table.specs.Answer.{CountsOf};
+ghost use Rattle.table.specs.Scan.{testOf};
 
 fn has_target(s: u8) -> bool
     ensures { λ x. ⌜ x ≡ hasTarget s ⌝ }
@@ -101,7 +102,7 @@ fn is_not_plain(t: &[u8], of: Counts, r: usize) -> bool
 }
 
 // Whether the test passes at record r.
-pub fn passes(test: Test, t: &[u8], of: Counts, r: usize) -> bool
+pub(crate) fn passes(test: Test, t: &[u8], of: Counts, r: usize) -> bool
     requires { ⌜ CountsOf (now t) of ⌝ }
     ensures { λ x. ⌜ x ≡ testOf test (now (t .entry)) r ⌝ }
 {

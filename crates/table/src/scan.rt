@@ -9,7 +9,8 @@ ghost use Prim.Native.Nat.{_≤_};
 ghost use Rattle.table.specs.Below.{count};
 ghost use Rattle.table.specs.Record.{records};
 ghost use Rattle.table.specs.Checks.{tooMany};
-ghost use Rattle.table.specs.Scan.{First, testOf, ofKind, surplusOf, CountsOf};
+ghost use Rattle.table.specs.Answer.{CountsOf};
+ghost use Rattle.table.specs.Scan.{First, testOf, ofKind, surplusOf};
 
 fn one_if(b: bool) -> usize
     ensures { λ x. ⌜ (x ≡ cond b 1 0) × (x ≤ 1) ⌝ }
@@ -18,7 +19,7 @@ fn one_if(b: bool) -> usize
 }
 
 // How many of the first n records are of kind k.
-pub fn count_kind(t: &[u8], k: u8, n: usize) -> usize
+pub(crate) fn count_kind(t: &[u8], k: u8, n: usize) -> usize
     ensures { λ x. ⌜ x ≡ count (ofKind (now (t .entry)) k) n ⌝ }
 {
     let mut seen: usize = 0;
@@ -31,7 +32,7 @@ pub fn count_kind(t: &[u8], k: u8, n: usize) -> usize
 }
 
 // The first of n records that is one more of kind k than the limit, or n.
-pub fn first_surplus(t: &[u8], k: u8, limit: usize, n: usize) -> usize
+pub(crate) fn first_surplus(t: &[u8], k: u8, limit: usize, n: usize) -> usize
     ensures { λ x. ⌜ First (surplusOf (now (t .entry)) k limit) n x ⌝ }
 {
     let mut seen: usize = 0;
@@ -48,7 +49,7 @@ pub fn first_surplus(t: &[u8], k: u8, limit: usize, n: usize) -> usize
 }
 
 // How many of the n records are of each kind.
-pub fn tally(t: &[u8], n: usize) -> Counts
+pub(crate) fn tally(t: &[u8], n: usize) -> Counts
     requires { ⌜ n ≡ records (now t) ⌝ }
     ensures { λ x. ⌜ CountsOf (now (t .entry)) x ⌝ }
 {
@@ -60,7 +61,7 @@ pub fn tally(t: &[u8], n: usize) -> Counts
 }
 
 // 4: the first of n records that is one more of its kind than allowed, or n.
-pub fn first_too_many(t: &[u8], n: usize) -> usize
+pub(crate) fn first_too_many(t: &[u8], n: usize) -> usize
     ensures { λ x. ⌜ First (tooMany (now (t .entry))) n x ⌝ }
 {
     let function = first_surplus(t, 1, 64, n);
@@ -69,7 +70,7 @@ pub fn first_too_many(t: &[u8], n: usize) -> usize
 }
 
 // The first of n records at which the test passes, or n.
-pub fn first(test: Test, t: &[u8], of: Counts, n: usize) -> usize
+pub(crate) fn first(test: Test, t: &[u8], of: Counts, n: usize) -> usize
     requires { ⌜ CountsOf (now t) of ⌝ }
     ensures { λ x. ⌜ First (testOf test (now (t .entry))) n x ⌝ }
 {

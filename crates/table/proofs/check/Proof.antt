@@ -1,21 +1,18 @@
--- Each `past-k` says that the first k checks do not apply, so that the rest of the list decides. A return cites the last of them.
-use Prim.Native.Nat.{ℕ, _/_, _%_}
-use mathlib.Core.Path.{_≡_, refl, sym, ap, _∙_}
-use mathlib.Core.Bool.{Bool, true, false, not, _||_}
+-- `past-k` says that checks 1 to k do not apply, so that the rest of the list decides; the return under check k + 1 cites it.
+use Prim.Native.Nat.{ℕ}
+use mathlib.Core.Path.{_≡_, refl, _∙_}
+use mathlib.Core.Bool.{true, false, _||_}
 use mathlib.Core.List.{List}
 use mathlib.Core.Option.{none, some}
-use native.Mathlib.Omega.{arith}
 use lib.Dec.{eqb, leb}
-use lib.ListN.{length, drop}
-use borrow.Author.Tests.{eq-eqb, ne-eqb, leb-true, leb-false, le-leb, lt-leb}
+use lib.ListN.{drop}
+use borrow.Author.Tests.{eq-eqb, ne-eqb}
 use borrow.Author.Needs.{needs}
-use Rattle.table.specs.Below.{earliest, any}
-use Rattle.table.specs.Refusal.{Refusal, refusal}
-use Rattle.table.specs.Refusal.{refused as refusedAt}
+use Rattle.table.specs.Refusal.{refusedAt, refusal}
 use Rattle.table.specs.Record.{records, isEntry, functions, nodes, edges}
-use Rattle.table.specs.Checks.{checks, noEntry}
+use Rattle.table.specs.Checks.{checks, broken, noEntry}
+use Rattle.table.specs.Answer.{outcome, outcomeFor, accepted, refused}
 use Rattle.table.specs.Scan.{First}
-use Rattle.table.specs.Answer.{Outcome, outcome, outcomeFor, accepted, refused}
 use Rattle.table.proofs.Below.{first-some, first-none, first-not-any}
 use Rattle.table.proofs.Refusals.{refusal-pass, refusal-here}
 use Rattle.table.proofs.check.Statement.{statement}
@@ -42,76 +39,110 @@ entry-told t f m e p = rw (e, first-not-any (isEntry t) (records t) m p) refl
 abbrev Past : ℕ → List ℕ → Type 0
 Past k t = refusal checks t ≡ refusal (drop k checks) t
 
-past-1 : (c : tie.Else1) → Past 1 (c .before .before .args .t .now)
-unfolding checks
+-- the table, as it is known past check k
+abbrev table-1 : tie.Else1 → List ℕ
+table-1 c = c .before .before .args .t .now
+
+abbrev table-2 : tie.Else2 → List ℕ
+table-2 c = table-1 (c .before .before .before)
+
+abbrev table-3 : tie.Else3 → List ℕ
+table-3 c = table-2 (c .before .before)
+
+abbrev table-4 : tie.Else4 → List ℕ
+table-4 c = table-3 (c .before .before)
+
+abbrev table-5 : tie.Else5 → List ℕ
+table-5 c = table-4 (c .before .before)
+
+abbrev table-6 : tie.Else6 → List ℕ
+table-6 c = table-5 (c .before .before)
+
+abbrev table-7 : tie.Else7 → List ℕ
+table-7 c = table-6 (c .before .before)
+
+abbrev table-8 : tie.Else8 → List ℕ
+table-8 c = table-7 (c .before .before)
+
+past-1 : (c : tie.Else1) → Past 1 (table-1 c)
+unfolding checks broken
 past-1 c = refusal-pass _ _ _ (rw (eq-eqb _ _ (c .if1 .left)) refl)
 
-past-2 : (c : tie.Else2) → Past 2 (c .before .before .before .before .before .args .t .now)
+past-2 : (c : tie.Else2) → Past 2 (table-2 c)
 unfolding checks
 past-2 c = past-1 (c .before .before .before) ∙ refusal-pass _ _ _ (first-none _ _ _ (c .before .first .ensures) (c .if2 .left))
 
-past-3 : (c : tie.Else3) → Past 3 (c .before .before .before .before .before .before .before .args .t .now)
+past-3 : (c : tie.Else3) → Past 3 (table-3 c)
 unfolding checks
 past-3 c = past-2 (c .before .before) ∙ refusal-pass _ _ _ (first-none _ _ _ (c .before .first2 .ensures) (c .if3 .left))
 
-past-4 : (c : tie.Else4) → Past 4 (c .before .before .before .before .before .before .before .before .before .args .t .now)
+past-4 : (c : tie.Else4) → Past 4 (table-4 c)
 unfolding checks
 past-4 c = past-3 (c .before .before) ∙ refusal-pass _ _ _ (first-none _ _ _ (c .before .first-too-many .ensures) (c .if4 .left))
 
-past-5 : (c : tie.Else5) → Past 5 (c .before .before .before .before .before .before .before .before .before .before .before .args .t .now)
+past-5 : (c : tie.Else5) → Past 5 (table-5 c)
 unfolding checks
 past-5 c =
-    let h : noEntry (c .before .before .before .before .before .before .before .before .before .before .before .args .t .now) ≡ false = entry-told (c .before .before .before .before .before .before .before .before .before .before .before .args .t .now) _ _ (c .before .before .before .before .before .before .before .before .tally .ensures .functions-are) (c .before .first3 .ensures) ∙ c .if5 .left in
+    let of = c .before .before .before .before .before .before .before .before .tally .ensures in
+    let h : noEntry (table-5 c) ≡ false = entry-told (table-5 c) _ _ (of .functions-are) (c .before .first3 .ensures) ∙ c .if5 .left in
     past-4 (c .before .before) ∙ refusal-pass _ _ _ (rw h refl)
 
-past-6 : (c : tie.Else6) → Past 6 (c .before .before .before .before .before .before .before .before .before .before .before .before .before .args .t .now)
+past-6 : (c : tie.Else6) → Past 6 (table-6 c)
 unfolding checks
 past-6 c = past-5 (c .before .before) ∙ refusal-pass _ _ _ (first-none _ _ _ (c .before .first4 .ensures) (c .if6 .left))
 
-past-7 : (c : tie.Else7) → Past 7 (c .before .before .before .before .before .before .before .before .before .before .before .before .before .before .before .args .t .now)
+past-7 : (c : tie.Else7) → Past 7 (table-7 c)
 unfolding checks
 past-7 c = past-6 (c .before .before) ∙ refusal-pass _ _ _ (first-none _ _ _ (c .before .first5 .ensures) (c .if7 .left))
 
-past-8 : (c : tie.Else8) → Past 8 (c .before .before .before .before .before .before .before .before .before .before .before .before .before .before .before .before .before .args .t .now)
+past-8 : (c : tie.Else8) → Past 8 (table-8 c)
 unfolding checks
 past-8 c = past-7 (c .before .before) ∙ refusal-pass _ _ _ (first-none _ _ _ (c .before .first6 .ensures) (c .if8 .left))
 
 returns : tie.Need-returns
-unfolding checks
+unfolding checks broken
 returns c = refused-outcome _ _ _ (refusal-here _ _ _ (rw (ne-eqb _ _ (c .if1 .taken)) refl))
 
 returns-2 : tie.Need-returns-2
 unfolding checks
-returns-2 c = refused-outcome _ _ _ (past-1 (c .before .before .before) ∙ refusal-here _ _ _ (first-some _ _ _ (c .before .first .ensures) (c .if2 .taken)))
+returns-2 c =
+    refused-outcome _ _ _ (past-1 (c .before .before .before) ∙ refusal-here _ _ _ (first-some _ _ _ (c .before .first .ensures) (c .if2 .taken)))
 
 returns-3 : tie.Need-returns-3
 unfolding checks
-returns-3 c = refused-outcome _ _ _ (past-2 (c .before .before) ∙ refusal-here _ _ _ (first-some _ _ _ (c .before .first2 .ensures) (c .if3 .taken)))
+returns-3 c =
+    refused-outcome _ _ _ (past-2 (c .before .before) ∙ refusal-here _ _ _ (first-some _ _ _ (c .before .first2 .ensures) (c .if3 .taken)))
 
 returns-4 : tie.Need-returns-4
 unfolding checks
-returns-4 c = refused-outcome _ _ _ (past-3 (c .before .before) ∙ refusal-here _ _ _ (first-some _ _ _ (c .before .first-too-many .ensures) (c .if4 .taken)))
+returns-4 c =
+    refused-outcome _ _ _ (past-3 (c .before .before) ∙ refusal-here _ _ _ (first-some _ _ _ (c .before .first-too-many .ensures) (c .if4 .taken)))
 
 returns-5 : tie.Need-returns-5
 unfolding checks
 returns-5 c =
-    let h : noEntry (c .before .before .before .before .before .before .before .before .before .before .before .args .t .now) ≡ true = entry-told (c .before .before .before .before .before .before .before .before .before .before .before .args .t .now) _ _ (c .before .before .before .before .before .before .before .before .tally .ensures .functions-are) (c .before .first3 .ensures) ∙ c .if5 .taken in
+    let t = table-4 (c .before .before) in
+    let of = c .before .before .before .before .before .before .before .before .tally .ensures in
+    let h : noEntry t ≡ true = entry-told t _ _ (of .functions-are) (c .before .first3 .ensures) ∙ c .if5 .taken in
     refused-outcome _ _ _ (past-4 (c .before .before) ∙ refusal-here _ _ _ (rw h refl))
 
 returns-6 : tie.Need-returns-6
 unfolding checks
-returns-6 c = refused-outcome _ _ _ (past-5 (c .before .before) ∙ refusal-here _ _ _ (first-some _ _ _ (c .before .first4 .ensures) (c .if6 .taken)))
+returns-6 c =
+    refused-outcome _ _ _ (past-5 (c .before .before) ∙ refusal-here _ _ _ (first-some _ _ _ (c .before .first4 .ensures) (c .if6 .taken)))
 
 returns-7 : tie.Need-returns-7
 unfolding checks
-returns-7 c = refused-outcome _ _ _ (past-6 (c .before .before) ∙ refusal-here _ _ _ (first-some _ _ _ (c .before .first5 .ensures) (c .if7 .taken)))
+returns-7 c =
+    refused-outcome _ _ _ (past-6 (c .before .before) ∙ refusal-here _ _ _ (first-some _ _ _ (c .before .first5 .ensures) (c .if7 .taken)))
 
 returns-8 : tie.Need-returns-8
 unfolding checks
-returns-8 c = refused-outcome _ _ _ (past-7 (c .before .before) ∙ refusal-here _ _ _ (first-some _ _ _ (c .before .first6 .ensures) (c .if8 .taken)))
+returns-8 c =
+    refused-outcome _ _ _ (past-7 (c .before .before) ∙ refusal-here _ _ _ (first-some _ _ _ (c .before .first6 .ensures) (c .if8 .taken)))
 
 returns-9 : tie.Need-returns-9
-returns-9 c = cc (accepted-outcome (c .before .before .before .before .before .before .before .before .before .before .before .before .before .before .before .before .before .args .t .now) (past-8 c ∙ nothing-left _))
+returns-9 c = cc (accepted-outcome (table-8 c) (past-8 c ∙ nothing-left _))
 
 tally-requires : tie.Need-tally-requires
 tally-requires c κs = search needs

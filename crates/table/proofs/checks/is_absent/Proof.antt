@@ -2,13 +2,6 @@ use Rattle.table.specs.Checks.{absent}
 use borrow.Author.Needs.{needs}
 use Rattle.table.proofs.checks.is_absent.Statement.{statement}
 use Rattle.table.proofs.checks.is_absent.Tie as tie
-use Rattle.table.proofs.checks.is_absent.Reads as reads
-use Rattle.table.proofs.checks.is_absent.Lts as lts
-use Rattle.table.proofs.checks.has_target.Reads as has-target-reads
-use Rattle.table.proofs.record.field_a.Reads as field-a-reads
-use Rattle.table.proofs.record.field_b.Reads as field-b-reads
-use Rattle.table.proofs.record.kind.Reads as kind-reads
-use Rattle.table.proofs.record.sort.Reads as sort-reads
 
 kind-requires : tie.Need-kind-requires
 kind-requires c κs = search needs

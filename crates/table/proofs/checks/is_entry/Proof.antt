@@ -1,10 +1,6 @@
 use borrow.Author.Needs.{needs}
 use Rattle.table.proofs.checks.is_entry.Statement.{statement}
 use Rattle.table.proofs.checks.is_entry.Tie as tie
-use Rattle.table.proofs.checks.is_entry.Reads as reads
-use Rattle.table.proofs.checks.is_entry.Lts as lts
-use Rattle.table.proofs.record.kind.Reads as kind-reads
-use Rattle.table.proofs.record.sort.Reads as sort-reads
 
 kind-requires : tie.Need-kind-requires
 kind-requires c κs = search needs

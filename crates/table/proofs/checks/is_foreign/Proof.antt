@@ -2,12 +2,6 @@ use Rattle.table.specs.Checks.{foreign}
 use borrow.Author.Needs.{needs}
 use Rattle.table.proofs.checks.is_foreign.Statement.{statement}
 use Rattle.table.proofs.checks.is_foreign.Tie as tie
-use Rattle.table.proofs.checks.is_foreign.Reads as reads
-use Rattle.table.proofs.checks.is_foreign.Lts as lts
-use Rattle.table.proofs.checks.owner.Reads as owner-reads
-use Rattle.table.proofs.record.field_a.Reads as field-a-reads
-use Rattle.table.proofs.record.field_b.Reads as field-b-reads
-use Rattle.table.proofs.record.kind.Reads as kind-reads
 
 kind-requires : tie.Need-kind-requires
 kind-requires c κs = search needs

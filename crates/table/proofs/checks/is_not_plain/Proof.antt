@@ -2,12 +2,6 @@ use Rattle.table.specs.Checks.{notPlain}
 use borrow.Author.Needs.{needs}
 use Rattle.table.proofs.checks.is_not_plain.Statement.{statement}
 use Rattle.table.proofs.checks.is_not_plain.Tie as tie
-use Rattle.table.proofs.checks.is_not_plain.Reads as reads
-use Rattle.table.proofs.checks.is_not_plain.Lts as lts
-use Rattle.table.proofs.checks.node_sort.Reads as node-sort-reads
-use Rattle.table.proofs.record.field_a.Reads as field-a-reads
-use Rattle.table.proofs.record.field_b.Reads as field-b-reads
-use Rattle.table.proofs.record.kind.Reads as kind-reads
 
 field-a-requires : tie.Need-field-a-requires
 field-a-requires c κs = search needs

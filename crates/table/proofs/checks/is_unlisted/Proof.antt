@@ -2,13 +2,6 @@ use Rattle.table.specs.Checks.{unlisted}
 use borrow.Author.Needs.{needs}
 use Rattle.table.proofs.checks.is_unlisted.Statement.{statement}
 use Rattle.table.proofs.checks.is_unlisted.Tie as tie
-use Rattle.table.proofs.checks.is_unlisted.Reads as reads
-use Rattle.table.proofs.checks.is_unlisted.Lts as lts
-use Rattle.table.proofs.checks.has_target.Reads as has-target-reads
-use Rattle.table.proofs.record.field_b.Reads as field-b-reads
-use Rattle.table.proofs.record.field_c.Reads as field-c-reads
-use Rattle.table.proofs.record.kind.Reads as kind-reads
-use Rattle.table.proofs.record.sort.Reads as sort-reads
 
 kind-requires : tie.Need-kind-requires
 kind-requires c κs = search needs

@@ -3,9 +3,6 @@ use Rattle.table.proofs.Below.{functions-fit}
 use borrow.Author.Needs.{needs}
 use Rattle.table.proofs.checks.node_sort.Statement.{statement}
 use Rattle.table.proofs.checks.node_sort.Tie as tie
-use Rattle.table.proofs.checks.node_sort.Reads as reads
-use Rattle.table.proofs.checks.node_sort.Lts as lts
-use Rattle.table.proofs.record.sort.Reads as sort-reads
 
 add-sort : tie.Need-add-sort
 add-sort c = omega (arith, functions-fit (c .before .before .args .t .now), c .before .before .pre .0 .functions-are)

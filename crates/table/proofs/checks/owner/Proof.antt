@@ -3,9 +3,6 @@ use Rattle.table.proofs.Below.{functions-fit}
 use borrow.Author.Needs.{needs}
 use Rattle.table.proofs.checks.owner.Statement.{statement}
 use Rattle.table.proofs.checks.owner.Tie as tie
-use Rattle.table.proofs.checks.owner.Reads as reads
-use Rattle.table.proofs.checks.owner.Lts as lts
-use Rattle.table.proofs.record.field_a.Reads as field-a-reads
 
 add-field-a : tie.Need-add-field-a
 add-field-a c = omega (arith, functions-fit (c .before .before .args .t .now), c .before .before .pre .0 .functions-are)

@@ -1,14 +1,6 @@
 use borrow.Author.Needs.{needs}
 use Rattle.table.proofs.checks.passes.Statement.{statement}
 use Rattle.table.proofs.checks.passes.Tie as tie
-use Rattle.table.proofs.checks.passes.Reads as reads
-use Rattle.table.proofs.checks.passes.Lts as lts
-use Rattle.table.proofs.checks.is_absent.Reads as is-absent-reads
-use Rattle.table.proofs.checks.is_entry.Reads as is-entry-reads
-use Rattle.table.proofs.checks.is_foreign.Reads as is-foreign-reads
-use Rattle.table.proofs.checks.is_not_plain.Reads as is-not-plain-reads
-use Rattle.table.proofs.checks.is_out_of_order.Reads as is-out-of-order-reads
-use Rattle.table.proofs.checks.is_unlisted.Reads as is-unlisted-reads
 
 enum-told : tie.Need-enum-told
 enum-told c = search needs

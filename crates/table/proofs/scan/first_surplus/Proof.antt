@@ -1,7 +1,7 @@
 -- The invariant: what was seen is the count below i, and none of the records before i is one too many.
-use Prim.Native.Nat.{ℕ, _-_, _+_, _≤_}
+use Prim.Native.Nat.{_-_}
 use native.Mathlib.Omega.{arith}
-use mathlib.Core.Path.{_≡_, sym, _∙_}
+use mathlib.Core.Path.{_≡_, sym}
 use borrow.Author.Needs.{needs}
 use Rattle.table.specs.Below.{count}
 use Rattle.table.specs.Scan.{ofKind, surplusOf}

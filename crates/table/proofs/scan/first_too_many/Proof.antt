@@ -3,9 +3,6 @@ use Rattle.table.proofs.Below.{first-either}
 use borrow.Author.Needs.{needs}
 use Rattle.table.proofs.scan.first_too_many.Statement.{statement}
 use Rattle.table.proofs.scan.first_too_many.Tie as tie
-use Rattle.table.proofs.scan.first_too_many.Reads as reads
-use Rattle.table.proofs.scan.first_too_many.Lts as lts
-use Rattle.table.proofs.scan.first_surplus.Reads as first-surplus-reads
 
 first-surplus-requires : tie.Need-first-surplus-requires
 first-surplus-requires c κs = search needs

@@ -2,9 +2,6 @@ use Rattle.table.specs.Record.{functions, nodes, edges}
 use borrow.Author.Needs.{needs}
 use Rattle.table.proofs.scan.tally.Statement.{statement}
 use Rattle.table.proofs.scan.tally.Tie as tie
-use Rattle.table.proofs.scan.tally.Reads as reads
-use Rattle.table.proofs.scan.tally.Lts as lts
-use Rattle.table.proofs.scan.count_kind.Reads as count-kind-reads
 
 count-kind-requires : tie.Need-count-kind-requires
 count-kind-requires c κs = search needs

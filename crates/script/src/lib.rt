@@ -1,0 +1,127 @@
+// Task tables written as text, for the programs that run worked-out cases.
+//
+// A line of numbers is a run of records: kind, sort, a, b, c, and then, where they are given, how many
+// there are (1 if not) and whether a and b go up by one from each to the next. Such as
+//
+//     1 1 0 4 40          an entry with first node 0, exit node 4 and a frame of 40
+//     2 0 0 0 0 512       512 plain nodes of function 0
+//     3 0 0 1 0 4 1 1     the edges 0-1, 1-2, 2-3, 3-4
+ghost use Prim.Native.Nat.{_-_, _≤_};
+ghost use lib.ListN.{length};
+
+// The line that starts at `at`, without its line feed; empty past the end of the text.
+pub fn line(text: &[u8], at: usize) -> &[u8]
+    ensures { λ r. ⌜ length (now r) ≤ length (now (text .entry)) - at ⌝ }
+{
+    let mut end: usize = at;
+    while end < text.len() {
+        if text[end] == b'\n' {
+            return &text[at..end];
+        }
+        end += 1;
+    }
+    if text.len() < at {
+        return &text[..0];
+    }
+    &text[at..]
+}
+
+fn digit(b: u8) -> usize
+    ensures { λ r. ⌜ r ≤ 10 ⌝ }
+{
+    if b < b'0' {
+        return 10;
+    }
+    if b'9' < b {
+        return 10;
+    }
+    (b - b'0') as usize
+}
+
+// The decimal number `word` of a line, counted from 0: 0 where there is none, and modulo 65,536.
+pub fn number(line: &[u8], word: usize) -> usize
+    ensures { λ r. ⌜ r ≤ 65535 ⌝ }
+{
+    let mut value: usize = 0;
+    let mut passed: usize = 0;
+    let mut i: usize = 0;
+    while i < line.len() {
+        let d = digit(line[i]);
+        i += 1;
+        if d == 10 {
+            passed += 1;
+        } else if passed == word {
+            value = (value * 10 + d) % 65536;
+        }
+    }
+    value
+}
+
+fn put(t: &mut [u8], at: usize, x: u8) {
+    if at < t.len() {
+        t[at] = x;
+    }
+}
+
+fn put_number(t: &mut [u8], at: usize, x: usize) {
+    put(t, at, (x % 256) as u8);
+    if at < t.len() {
+        put(t, at + 1, (x / 256 % 256) as u8);
+    }
+}
+
+fn stepped(x: usize, step: usize, i: usize) -> usize
+    requires { ⌜ (x ≤ 65535) × (i ≤ 65535) ⌝ }
+{
+    if step == 0 { x } else { x + i }
+}
+
+// Writes record i of a line's run at byte `at`, as far as it fits.
+fn put_record(t: &mut [u8], at: usize, line: &[u8], i: usize)
+    requires { ⌜ i ≤ 65535 ⌝ }
+{
+    if t.len() <= at {
+        return;
+    }
+    let second = at + 1;
+    let a = at + 2;
+    let b = at + 4;
+    let c = at + 6;
+    put(t, at, (number(line, 0) % 256) as u8);
+    put(t, second, (number(line, 1) % 256) as u8);
+    put_number(t, a, stepped(number(line, 2), number(line, 6), i));
+    put_number(t, b, stepped(number(line, 3), number(line, 7), i));
+    put_number(t, c, number(line, 4));
+}
+
+// How many records a line stands for.
+fn times(line: &[u8]) -> usize
+    ensures { λ r. ⌜ r ≤ 65535 ⌝ }
+{
+    let given = number(line, 5);
+    if given == 0 { 1 } else { given }
+}
+
+pub fn least(a: usize, b: usize) -> usize
+    ensures { λ r. ⌜ (r ≤ a) × (r ≤ b) ⌝ }
+{
+    if a < b { a } else { b }
+}
+
+// Writes the records of a line from byte `at` on, as far as they fit, and returns where the next one goes.
+pub fn put_run(t: &mut [u8], at: usize, line: &[u8]) -> usize
+    ensures { λ r. ⌜ r ≤ length (now (t .exit)) ⌝ }
+{
+    let count = times(line);
+    let mut next: usize = least(at, t.len());
+    let mut i: usize = 0;
+    while i < count {
+        if t.len() - next < 8 {
+            return next;
+        }
+        put_record(t, next, line, i);
+        next += 8;
+        i += 1;
+    }
+    next
+}
