@@ -6,7 +6,9 @@
 //     1 1 0 4 40          an entry with first node 0, exit node 4 and a frame of 40
 //     2 0 0 0 0 512       512 plain nodes of function 0
 //     3 0 0 1 0 4 1 1     the edges 0-1, 1-2, 2-3, 3-4
-ghost use Prim.Native.Nat.{_-_, _≤_};
+//
+// `+ N` adds N bytes, a line that begins with `#` says nothing, and `= NAME` ends a table.
+ghost use Prim.Native.Nat.{_+_, _-_, _≤_, min};
 ghost use lib.ListN.{length};
 
 // The line that starts at `at`, without its line feed; empty past the end of the text.
@@ -124,4 +126,66 @@ pub fn put_run(t: &mut [u8], at: usize, line: &[u8]) -> usize
         i += 1;
     }
     next
+}
+
+// Does what a line says to the table in the first len bytes of t, and returns its new length.
+fn put_line(t: &mut [u8], len: usize, line: &[u8]) -> usize
+    ensures { λ r. ⌜ r ≤ length (now (t .exit)) ⌝ }
+{
+    if line.len() == 0 {
+        return least(len, t.len());
+    }
+    let mark = line[0];
+    if mark == b'#' {
+        return least(len, t.len());
+    }
+    if mark == b'+' {
+        return least(least(len, t.len()) + number(line, 2), t.len());
+    }
+    put_run(t, len, line)
+}
+
+// A table that a text describes.
+pub struct Described {
+    // Whether there is one.
+    pub found: bool,
+    // Where its name stands in the text.
+    pub from: usize,
+    pub to: usize,
+    // Its length.
+    pub len: usize,
+    // Where the text goes on.
+    pub next: usize,
+}
+
+// Writes the table that the lines from `at` on describe to the start of t.
+pub fn describe(text: &[u8], at: usize, t: &mut [u8]) -> Described
+    ensures { λ r. ⌜ (r .len ≤ length (now (t .exit))) × (r .from ≤ r .to) × (r .to ≤ length (now (text .entry))) ⌝ }
+    ensures { λ r. ⌜ min (at + 1) (length (now (text .entry))) ≤ r .next ⌝ }
+{
+    let mut len: usize = 0;
+    let mut next: usize = at;
+    while next < text.len() {
+        let words = line(text, next);
+        let start = next;
+        let end = start + words.len();
+        next = end + 1;
+        if text[start] == b'=' {
+            return Described {
+                found: true,
+                from: least(start + 2, end),
+                to: end,
+                len,
+                next,
+            };
+        }
+        len = put_line(t, len, words);
+    }
+    Described {
+        found: false,
+        from: 0,
+        to: 0,
+        len,
+        next,
+    }
 }

@@ -3,6 +3,7 @@ use Prim.Native.Nat.{ℕ, _+_, _<_, _≤_}
 use mathlib.Core.Path.{_≡_, sym, _∙_, subst}
 use mathlib.Core.List.{List}
 use mathlib.Core.Bool.{true, false, not, _&&_, _||_}
+use mathlib.Core.Logic.{⊎-elim}
 use native.Mathlib.Omega.{arith}
 use lib.Dec.{eqb, leb}
 use borrow.Author.Tests.{eqb-true, leb-true, leb-false, not-false}
@@ -12,10 +13,10 @@ use Rattle.table.specs.Checks.{Accepted, unlisted, tooMany, noEntry, abs
 use Rattle.table.specs.Program.{programOf}
 use Rattle.table.specs.WellFormed.{WellFormed, PlainOwn, Together}
 use Rattle.table.specs.Scan.{surplusOf}
-use Rattle.table.proofs.Booleans.{neither, none-of-three, both, and-true-left, and-true-right, and-false-right, or-false}
+use Rattle.table.proofs.Booleans.{either-way, or-true-right, neither, none-of-three, both, and-true-left, and-true-right, and-false-right, or-false}
 use Rattle.table.proofs.Below.{count-limit, any-which}
 use Rattle.table.proofs.Rows
-use Rattle.table.proofs.Program.{entry-read, first-read, exit-read, nodes-read, sort-read, owner-read, target-read, edge-which}
+use Rattle.table.proofs.Fields.{entry-read, first-read, exit-read, nodes-read, sort-read, owner-read, target-read, edge-which}
 
 module _ (t : List ℕ) (ok : Accepted t) where
   -- the bytes are its records: functions, then nodes, then edges
@@ -100,16 +101,23 @@ module _ (t : List ℕ) (ok : Accepted t) where
   exit-own : (f : ℕ) → f < functions t → PlainOwn (programOf t) f (programOf t .exit f)
   exit-own f h = rw (exit-read t f h) (plain-own f (fieldB t f) (ends-exist f h .1) (ends-plain f h .1) (ends-own f h .1))
 
-  -- checks 2 and 6 of a node: its sort is listed, its owner exists, and so does the target of a call or spawn
-  sort-listed : (n : ℕ) → n < nodes t → nodeSort t n ≤ sync
+  -- checks 2 and 6 of a node: its sort is listed, its owner exists, and so does the target of a call or spawn; else that is 0
+  node-listed : (n : ℕ) → n < nodes t → (leb (nodeSort t n) sync ≡ true) × ((hasTarget (nodeSort t n) || eqb (nodeTarget t n) 0) ≡ true)
   unfolding unlisted
-  sort-listed n h =
+  node-listed n h =
       let r = nodeRecord t n in
-      let s = leb (sortOf t r) 3 in
+      let s = leb (sortOf t r) sync in
       let b = hasTarget (sortOf t r) || eqb (fieldB t r) 0 in
       let c = eqb (fieldC t r) 0 in
       let e : not (s && b && c || false) ≡ false = rw (Rows.node-kind t ok n h) at (Rows.all-listed t ok r (node-record n h)) in
-      leb-true _ _ (and-true-left s b (and-true-left (s && b) c (sym (or-false (s && b && c)) ∙ not-false _ e)))
+      let w = and-true-left (s && b) c (sym (or-false (s && b && c)) ∙ not-false _ e) in
+      (and-true-left s b w, and-true-right s b w)
+
+  sort-listed : (n : ℕ) → n < nodes t → nodeSort t n ≤ sync
+  sort-listed n h = leb-true _ _ (node-listed n h .0)
+
+  target-none : (n : ℕ) → n < nodes t → hasTarget (nodeSort t n) ≡ false → nodeTarget t n ≡ 0
+  target-none n h s = eqb-true _ _ (or-true-right (hasTarget (nodeSort t n)) _ (node-listed n h .1) s)
 
   numbers-exist : (n : ℕ) → n < nodes t → (leb (functions t) (nodeOwner t n) ≡ false) × ((hasTarget (nodeSort t n) && leb (functions t) (nodeTarget t n)) ≡ false)
   unfolding absent
@@ -122,8 +130,12 @@ module _ (t : List ℕ) (ok : Accepted t) where
   owner-exists : (n : ℕ) → n < nodes t → nodeOwner t n < functions t
   owner-exists n h = leb-false _ _ (numbers-exist n h .0)
 
-  target-exists : (n : ℕ) → n < nodes t → hasTarget (nodeSort t n) ≡ true → nodeTarget t n < functions t
-  target-exists n h s = leb-false _ _ (and-false-right (hasTarget (nodeSort t n)) _ (numbers-exist n h .1) s)
+  target-exists : (n : ℕ) → n < nodes t → nodeTarget t n < functions t
+  target-exists n h =
+      ⊎-elim
+      (λ (s : hasTarget (nodeSort t n) ≡ true). leb-false _ _ (and-false-right (hasTarget (nodeSort t n)) _ (numbers-exist n h .1) s))
+      (λ (s : hasTarget (nodeSort t n) ≡ false). omega (arith, target-none n h s, some-entry .1))
+      (either-way (hasTarget (nodeSort t n)))
 
   -- checks 6 and 7 of an edge: both its ends exist and have one owner
   ends-there : (e : ℕ) → e < edges t → (edgeFrom t e < nodes t) × (edgeTo t e < nodes t)
@@ -167,6 +179,7 @@ module _ (t : List ℕ) (ok : Accepted t) where
     exit-own = exit-own;
     sort-listed = λ n h. rw (sort-read t n h) (sort-listed n h);
     owner-exists = λ n h. rw (owner-read t n h) (owner-exists n h);
-    target-exists = λ n h s. rw (target-read t n h) (target-exists n h (rw (sort-read t n h) at s));
+    target-exists = λ n h. rw (target-read t n h) (target-exists n h);
+    target-none = λ n h s. target-read t n h ∙ target-none n h (rw (sort-read t n h) at s);
     edge-together = edge-together;
   }

@@ -79,6 +79,11 @@ module _ (f : ℕ → Bool) where
       go true h e ih = let w = ih h in (w .0, omega (arith, w .1), w .2)
       go false h e ih = (n, omega arith, e)
 
+-- one more number, as a loop counts it
+pub any-more : (f : ℕ → Bool) (n : ℕ) → any f (n + 1) ≡ (any f n || f n)
+unfolding any
+any-more f n = rw add-one refl
+
 -- ---- a search upwards
 
 -- where it stands: none of the numbers passed is one to find
@@ -198,6 +203,26 @@ module _ (f : ℕ → Bool) where
           (λ (i : k ≡ n). ap f i ∙ e ∙ sym (le-ltb k (count f n + 0) (omega (arith, count-le f n))))
           (λ (l : k < n). ih l ∙ ap (λ (m : ℕ). ltb k m) (omega arith))
           (last-or-before k n h)
+
+one-mono : (a b : Bool) → (a ≡ true → b ≡ true) → cond a 1 0 ≤ cond b 1 0
+one-mono true b h = rw (h refl) (omega arith)
+one-mono false b h = omega arith
+
+-- a test that passes wherever another does passes at least as often
+pub count-mono : (f g : ℕ → Bool) (n : ℕ) → ((k : ℕ) → f k ≡ true → g k ≡ true) → count f n ≤ count g n
+unfolding count
+count-mono f g zero h = omega arith
+count-mono f g (suc n) h = omega (arith, count-mono f g n h, one-mono (f n) (g n) (h n))
+
+-- and more often, where it passes at some x at which the other does not
+pub count-strict : (f g : ℕ → Bool) (n x : ℕ) → x < n → ((k : ℕ) → f k ≡ true → g k ≡ true) → f x ≡ false → g x ≡ true → count f n < count g n
+unfolding count
+count-strict f g zero x l h p q = absurd (omega arith)
+count-strict f g (suc n) x l h p q =
+    ⊎-elim
+    (λ (e : x ≡ n). subst (λ (m : ℕ). count f m + cond (f m) 1 0 < count g m + cond (g m) 1 0) e (rw (p, q) (omega (arith, count-mono f g x h))))
+    (λ (l : x < n). omega (arith, count-strict f g n x l h p q, one-mono (f n) (g n) (h n)))
+    (last-or-before x n l)
 
 -- there are no more functions than records
 pub functions-fit : (t : List ℕ) → functions t ≤ records t

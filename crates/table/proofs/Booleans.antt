@@ -14,6 +14,10 @@ pub or-true : (b : Bool) → (b || true) ≡ true
 or-true true = refl
 or-true false = refl
 
+pub or-true-right : (a b : Bool) → (a || b) ≡ true → a ≡ false → b ≡ true
+or-true-right true b h e = not-both true refl e
+or-true-right false b h e = h
+
 pub or-false : (b : Bool) → (b || false) ≡ b
 or-false true = refl
 or-false false = refl

@@ -6,22 +6,22 @@ use mathlib.Core.Bool.{true}
 use mathlib.Core.Option.{some}
 use lib.Dec.{eqb}
 use Rattle.table.specs.Refusal.{refusedAt, refusal}
-use Rattle.table.specs.Record.{records, sortOf, fieldA, fieldB, fieldC, functions, nodes, edges, nodeSort, nodeOwner, nodeTarget}
+use Rattle.table.specs.Record.{records, sortOf, fieldA, fieldB, fieldC, functions, nodes, edges, nodeSort, nodeOwner, nodeTarget, plain}
 use Rattle.table.specs.Checks.{checks, Accepted}
-use Rattle.table.specs.Answer.{outcome, outcomeOf, CountsOf}
+use Rattle.table.specs.Answer.{outcome, outcomeOf, Ready}
 use Rattle.table.specs.Program.{programOf}
 use Rattle.table.specs.WellFormed.{WellFormed}
 use Rattle.table.specs.SameButEdges.{SameButEdges, HasEdge}
 use Rattle.table.specs.declared.Counts.{Counts}
 use Rattle.table.specs.declared.Checked.{Checked}
-use Rattle.table.proofs.Program as fields
+use Rattle.table.proofs.Fields as fields
 use Rattle.table.proofs.Accepted as accepted
 use Rattle.table.proofs.SameButEdges as same
 use Rattle.table.proofs.Answer as answer
 
 module _ (t : List ℕ) where
   -- the two cases of an answer
-  pub answer-accepted : (c : Counts) → outcomeOf (Checked.Accepted c) ≡ outcome t → Accepted t × CountsOf t c
+  pub answer-accepted : (c : Counts) → outcomeOf (Checked.Accepted c) ≡ outcome t → Ready t c
   answer-accepted = answer.answer-accepted t
 
   pub answer-refused : (n p : ℕ) → outcomeOf (Checked.Refused n p) ≡ outcome t → refusal checks t ≡ some (refusedAt n p)
@@ -48,6 +48,9 @@ module _ (t : List ℕ) where
 
   pub sort-read : (n : ℕ) → n < nodes t → programOf t .sort n ≡ nodeSort t n
   sort-read = fields.sort-read t
+
+  pub sort-past : (n : ℕ) → nodes t ≤ n → programOf t .sort n ≡ plain
+  sort-past = fields.sort-past t
 
   pub owner-read : (n : ℕ) → n < nodes t → programOf t .owner n ≡ nodeOwner t n
   owner-read = fields.owner-read t

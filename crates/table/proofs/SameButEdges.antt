@@ -13,7 +13,7 @@ use Rattle.table.specs.Record.{byteOf, numberOf, sortOf, fieldA, fieldB,
 use Rattle.table.specs.Program.{programOf, within}
 use Rattle.table.specs.SameButEdges.{SameButEdges, HasEdge}
 use Rattle.table.proofs.Booleans.{either-way, same-test}
-use Rattle.table.proofs.Program.{within-out, edge-read, edge-which}
+use Rattle.table.proofs.Fields.{within-out, edge-read, edge-which}
 
 same-within : (n m i x y : ℕ) → n ≡ m → (i < n → x ≡ y) → within n i x ≡ within m i y
 same-within n m i x y e h =

@@ -6,6 +6,7 @@ use mathlib.Core.Option.{Option, none, some}
 use Rattle.table.specs.Refusal.{Refusal, refusal}
 use Rattle.table.specs.Record.{functions, nodes, edges}
 use Rattle.table.specs.Checks.{checks}
+use Rattle.table.specs.Checks.{Accepted as IsAccepted}
 use Rattle.table.specs.declared.Counts.{Counts}
 use Rattle.table.specs.declared.Checked.{Checked}
 use Rattle.table.specs.declared.Checked.the-variants.{Accepted, Refused}
@@ -34,3 +35,8 @@ pub record CountsOf (t : List ℕ) (c : Counts) : Type 0 where
   pub functions-are : c .functions ≡ functions t
   pub nodes-are : c .nodes ≡ nodes t
   pub edges-are : c .edges ≡ edges t
+
+-- c is what an accepted table was accepted with: what the readers of its program ask
+pub record Ready (t : List ℕ) (c : Counts) : Type 0 where
+  pub accepted-is : IsAccepted t
+  pub counts-are : CountsOf t c

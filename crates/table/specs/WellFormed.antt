@@ -1,7 +1,7 @@
 -- What the checks see to: what holds of the program of every accepted table (`well-formed` in proofs/Laws.antt), and all that the crates above know of one.
 use Prim.Native.Nat.{ℕ, _<_, _≤_}
 use mathlib.Core.Path.{_≡_}
-use mathlib.Core.Bool.{true}
+use mathlib.Core.Bool.{true, false}
 use Rattle.table.specs.Record.{plain, sync, hasTarget}
 use Rattle.table.specs.Program.{Program}
 
@@ -26,9 +26,10 @@ pub record WellFormed (g : Program) : Type 0 where
   -- first and exit node of a function exist, and are plain and its own
   pub first-own : (f : ℕ) → f < g .functions → PlainOwn g f (g .first f)
   pub exit-own : (f : ℕ) → f < g .functions → PlainOwn g f (g .exit f)
-  -- a node's sort is a listed one, its owner exists, and so does the target of a call or spawn
+  -- a node's sort is a listed one, its owner exists, and so does the target of a call or spawn; of other nodes the target is 0
   pub sort-listed : (n : ℕ) → n < g .nodes → g .sort n ≤ sync
   pub owner-exists : (n : ℕ) → n < g .nodes → g .owner n < g .functions
-  pub target-exists : (n : ℕ) → n < g .nodes → hasTarget (g .sort n) ≡ true → g .target n < g .functions
+  pub target-exists : (n : ℕ) → n < g .nodes → g .target n < g .functions
+  pub target-none : (n : ℕ) → n < g .nodes → hasTarget (g .sort n) ≡ false → g .target n ≡ 0
   -- an edge joins two nodes of one function
   pub edge-together : (a b : ℕ) → g .edge a b ≡ true → Together g a b

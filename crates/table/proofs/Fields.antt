@@ -5,7 +5,7 @@ use mathlib.Core.List.{List}
 use mathlib.Core.Bool.{true}
 use lib.Dec.{eqb}
 use borrow.Author.Tests.{eqb-true, eq-eqb, lt-ltb, le-ltb}
-use Rattle.table.specs.Record.{sortOf, fieldA, fieldB, fieldC, functions, nodes, edges, nodeSort, nodeOwner, nodeTarget, edgeFrom, edgeTo}
+use Rattle.table.specs.Record.{sortOf, fieldA, fieldB, fieldC, functions, nodes, edges, nodeSort, nodeOwner, nodeTarget, edgeFrom, edgeTo, plain}
 use Rattle.table.specs.Program.{programOf, within}
 use Rattle.table.specs.SameButEdges.{HasEdge}
 use Rattle.table.proofs.Booleans.{and-true-left, and-true-right}
@@ -55,6 +55,11 @@ module _ (t : List ℕ) where
     pub target-read : programOf t .target n ≡ nodeTarget t n
     unfolding programOf
     target-read = within-in _ _ _ h
+
+  -- a node that does not exist counts as plain
+  pub sort-past : (n : ℕ) → nodes t ≤ n → programOf t .sort n ≡ plain
+  unfolding programOf
+  sort-past n h = within-out _ _ _ h
 
   -- the edges are those of the edge records
   pub edge-read : (a b : ℕ) → HasEdge t a b → programOf t .edge a b ≡ true

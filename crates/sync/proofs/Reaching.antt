@@ -1,0 +1,64 @@
+-- A search by sweeps finds just the nodes that paths lead to.
+use Prim.Native.Nat.{ℕ, _<_}
+use mathlib.Core.Path.{_≡_, refl, sym, subst}
+use mathlib.Core.List.{List}
+use mathlib.Core.Bool.{Bool, true, false}
+use mathlib.Core.Logic.{_↔_}
+use native.Mathlib.Omega.{arith}
+use Rattle.table.specs.Record.{edges, edgeFrom, edgeTo}
+use Rattle.table.specs.Answer.{Ready}
+use Rattle.table.specs.Program.{programOf}
+use Rattle.table.specs.declared.Counts.{Counts}
+use Rattle.table.proofs.Booleans.{not-both}
+use Rattle.table.proofs.Laws.{edge-which}
+use Rattle.table.proofs.Ready.{edge-is}
+use Rattle.sync.specs.Paths.{Path, stop, step, Clear}
+use Rattle.sync.specs.Words.{member}
+use Rattle.sync.specs.Search.{From, Swept, leadsOn}
+use Rattle.sync.proofs.Sweeps.{grown-keeps, grown-all}
+use Rattle.sync.proofs.Leads.{leads-from, leads-clear, leads-nowhere}
+
+-- where the search stands
+pub record Reaching (t avoid from words : List ℕ) (grew : Bool) : Type 0 where
+  pub sound : (n : ℕ) → member words n ≡ true → From (programOf t) (member avoid) (member from) n
+  pub keeps : (n : ℕ) → member from n ≡ true → member words n ≡ true
+  pub done : grew ≡ false → (e : ℕ) → e < edges t → leadsOn t avoid words e ≡ false
+
+module _ (t : List ℕ) (c : Counts) (r : Ready t c) (avoid from : List ℕ) where
+  pub reaching-none : Reaching t avoid from from true
+  reaching-none = record {
+    sound = λ n h. (n, h, (stop, tt));
+    keeps = λ n h. h;
+    done = λ q. not-both true refl q;
+  }
+
+  pub reaching-more : (w v : List ℕ) (grew : Bool) → Reaching t avoid from w true → Swept (leadsOn t avoid) (edgeTo t) (c .edges) (c .edges) w v grew → Reaching t avoid from v grew
+  reaching-more w v grew p s = record {
+    sound =
+        grown-all (leadsOn t avoid) (edgeTo t) (c .edges) w
+        (From (programOf t) (member avoid) (member from))
+        (p .sound)
+        (λ u i l h old.
+        let o = old (edgeFrom t i) (leads-from t avoid u i h) in
+        (o .0, o .1, (step (o .2 .0) (edge-is t c r i l), (o .2 .1, leads-clear t avoid u i h))))
+        v
+        (s .grown);
+    keeps = λ n h. grown-keeps (leadsOn t avoid) (edgeTo t) (c .edges) w v (s .grown) n (p .keeps n h);
+    done = λ q e h.
+        let k = s .quiet q in
+        subst (λ (x : List ℕ). leadsOn t avoid x e ≡ false) (sym (k .0)) (k .1 e (omega (arith, r .counts-are .edges-are)));
+  }
+
+  pub reaching-all : (w : List ℕ) → Reaching t avoid from w false → {a n : ℕ} (p : Path (programOf t) a n) → member from a ≡ true → Clear (member avoid) p → member w n ≡ true
+  reaching-all w q stop h k = q .keeps _ h
+  reaching-all w q (step {p = b} {n = n} p e) h k =
+      let there = reaching-all w q p h (k .0) in
+      let x = edge-which t b n e in
+      subst (λ (m : ℕ). member w m ≡ true) (x .3)
+      (leads-nowhere t avoid w (x .0)
+      (q .done refl (x .0) (x .1))
+      (subst (λ (m : ℕ). member w m ≡ true) (sym (x .2)) there)
+      (subst (λ (m : ℕ). member avoid m ≡ false) (sym (x .3)) (k .1)))
+
+  pub reaching-exact : (w : List ℕ) → Reaching t avoid from w false → (n : ℕ) → (member w n ≡ true) ↔ From (programOf t) (member avoid) (member from) n
+  reaching-exact w q n = (q .sound n, λ f. reaching-all w q (f .2 .0) (f .1) (f .2 .1))

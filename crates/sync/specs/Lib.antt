@@ -1,0 +1,8 @@
+-- What is believed, in reading order.
+pub mod Paths
+pub mod Synchronising
+pub mod Words
+pub mod Answer
+pub mod CaseF
+-- What only helps proofs.
+pub mod Search

@@ -1,0 +1,28 @@
+use native.Mathlib.Omega.{arith}
+use Rattle.table.proofs.Ready.{from-given, few-functions, few-nodes, edges-few}
+use borrow.Author.Needs.{needs}
+use Rattle.table.proofs.program.edge_from.Statement.{statement}
+use Rattle.table.proofs.program.edge_from.Tie as tie
+
+add-field-a : tie.Need-add-field-a
+add-field-a c =
+    let a = c .before .before .args in
+    let r = c .before .before .pre .0 in
+    omega (arith, few-functions (a .t .now) (a .of) r, few-nodes (a .t .now) (a .of) r, edges-few (a .t .now) (a .of) r)
+
+add-field-a-2 : tie.Need-add-field-a-2
+add-field-a-2 c =
+    let a = c .before .before .args in
+    let r = c .before .before .pre .0 in
+    omega (arith, few-functions (a .t .now) (a .of) r, few-nodes (a .t .now) (a .of) r, edges-few (a .t .now) (a .of) r)
+
+field-a-requires : tie.Need-field-a-requires
+field-a-requires c κs = search needs
+
+returns : tie.Need-returns
+returns c =
+    let a = c .before .before .before .args in
+    from-given (a .t .now) (a .of) (c .before .before .before .pre .0) (a .e) (c .field-a .result) (c .before .before .before .pre .1) (c .field-a .ensures .0)
+
+pub edge-from-spec : {M : Type 1} → statement M
+edge-from-spec = tie.close (tie.spec add-field-a add-field-a-2 field-a-requires returns)

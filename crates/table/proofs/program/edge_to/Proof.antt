@@ -1,0 +1,28 @@
+use native.Mathlib.Omega.{arith}
+use Rattle.table.proofs.Ready.{to-given, few-functions, few-nodes, edges-few}
+use borrow.Author.Needs.{needs}
+use Rattle.table.proofs.program.edge_to.Statement.{statement}
+use Rattle.table.proofs.program.edge_to.Tie as tie
+
+add-field-b : tie.Need-add-field-b
+add-field-b c =
+    let a = c .before .before .args in
+    let r = c .before .before .pre .0 in
+    omega (arith, few-functions (a .t .now) (a .of) r, few-nodes (a .t .now) (a .of) r, edges-few (a .t .now) (a .of) r)
+
+add-field-b-2 : tie.Need-add-field-b-2
+add-field-b-2 c =
+    let a = c .before .before .args in
+    let r = c .before .before .pre .0 in
+    omega (arith, few-functions (a .t .now) (a .of) r, few-nodes (a .t .now) (a .of) r, edges-few (a .t .now) (a .of) r)
+
+field-b-requires : tie.Need-field-b-requires
+field-b-requires c κs = search needs
+
+returns : tie.Need-returns
+returns c =
+    let a = c .before .before .before .args in
+    to-given (a .t .now) (a .of) (c .before .before .before .pre .0) (a .e) (c .field-b .result) (c .before .before .before .pre .1) (c .field-b .ensures .0)
+
+pub edge-to-spec : {M : Type 1} → statement M
+edge-to-spec = tie.close (tie.spec add-field-b add-field-b-2 field-b-requires returns)

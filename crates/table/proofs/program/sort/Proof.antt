@@ -1,0 +1,22 @@
+use native.Mathlib.Omega.{arith}
+use Rattle.table.proofs.Ready.{sort-given, few-functions, few-nodes, edges-few}
+use borrow.Author.Needs.{needs}
+use Rattle.table.proofs.program.sort.Statement.{statement}
+use Rattle.table.proofs.program.sort.Tie as tie
+
+add-sort : tie.Need-add-sort
+add-sort c =
+    let a = c .before .before .args in
+    let r = c .before .before .pre .0 in
+    omega (arith, few-functions (a .t .now) (a .of) r, few-nodes (a .t .now) (a .of) r, edges-few (a .t .now) (a .of) r)
+
+sort-requires : tie.Need-sort-requires
+sort-requires c κs = search needs
+
+returns : tie.Need-returns
+returns c =
+    let a = c .before .before .before .args in
+    sort-given (a .t .now) (a .of) (c .before .before .before .pre .0) (a .n) (c .sort .result) (c .before .before .before .pre .1) (c .sort .ensures)
+
+pub sort-spec : {M : Type 1} → statement M
+sort-spec = tie.close (tie.spec add-sort sort-requires returns)
