@@ -1,5 +1,5 @@
 -- For the contracts of the search. Helps proofs only: no public promise rests on it.
-use Prim.Native.Nat.{ℕ, _+_, _<_, _≤_}
+use Prim.Native.Nat.{ℕ, _+_, _-_, _<_, _≤_}
 use mathlib.Core.Path.{_≡_}
 use mathlib.Core.List.{List}
 use mathlib.Core.Bool.{Bool, true, false, cond, not, _&&_, _||_}
@@ -39,6 +39,15 @@ pub record Swept (lets : List ℕ → ℕ → Bool) (item : ℕ → ℕ) (total 
 -- the e-th edge leads to a node that is not in the set yet and not to be avoided
 abbrev pub leadsOn : List ℕ → List ℕ → List ℕ → ℕ → Bool
 leadsOn t avoid words e = member words (edgeFrom t e) && not (member avoid (edgeTo t e)) && not (member words (edgeTo t e))
+
+-- the i-th of k items, counted from the last where `back`
+abbrev pub turn : Bool → ℕ → ℕ → ℕ
+turn false k i = i
+turn true k i = k - (i + 1)
+
+-- a sweep over k edges, in their order or back
+abbrev pub EdgesSwept : List ℕ → List ℕ → Bool → ℕ → ℕ → List ℕ → List ℕ → Bool → Type 0
+EdgesSwept t avoid back k = Swept (λ w i. leadsOn t avoid w (turn back k i)) (λ i. edgeTo t (turn back k i)) k
 
 -- node n is a call of f that is not in the set yet
 abbrev pub callOf : List ℕ → ℕ → List ℕ → ℕ → Bool

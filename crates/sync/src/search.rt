@@ -8,11 +8,10 @@ ghost use mathlib.Core.Path.{_≡_};
 ghost use mathlib.Core.Bool.{true};
 ghost use mathlib.Core.Logic.{_↔_};
 ghost use Prim.Native.Nat.{ℕ, _<_};
-ghost use Rattle.table.specs.Record.{edgeTo};
 ghost use Rattle.table.specs.Answer.{Ready};
 ghost use Rattle.table.specs.Program.{programOf};
 ghost use Rattle.sync.specs.Words.{member};
-ghost use Rattle.sync.specs.Search.{From, Swept, leadsOn};
+ghost use Rattle.sync.specs.Search.{From, EdgesSwept, leadsOn, turn};
 
 // A set, and whether a sweep has added to it.
 pub(crate) struct Growth {
@@ -30,20 +29,28 @@ fn leads_on(t: &[u8], of: Counts, avoid: [u64; 8], set: [u64; 8], e: usize) -> b
     has(set, a) & !has(avoid, b) & !has(set, b)
 }
 
-// One sweep over the edges, in their order.
-fn sweep(t: &[u8], of: Counts, avoid: [u64; 8], from: [u64; 8]) -> Growth
+// The i-th of k, counted from the last where back.
+fn turned(back: bool, k: usize, i: usize) -> usize
+    requires { ⌜ i < k ⌝ }
+    ensures { λ r. ⌜ (r ≡ turn back k i) × (r < k) ⌝ }
+{
+    if back { k - (i + 1) } else { i }
+}
+
+// One sweep over the edges, in their order or back.
+fn sweep(t: &[u8], of: Counts, avoid: [u64; 8], from: [u64; 8], back: bool) -> Growth
     requires { ⌜ Ready (now t) of ⌝ }
-    ensures { λ r. ⌜ Swept (leadsOn (now (t .entry)) avoid) (edgeTo (now (t .entry))) (of .edges) (of .edges) from (r .set) (r .grew) ⌝ }
+    ensures { λ r. ⌜ EdgesSwept (now (t .entry)) avoid back (of .edges) (of .edges) from (r .set) (r .grew) ⌝ }
 {
     let edges = of.edges;
     let mut set = from;
     let mut grew = false;
-    let mut e: usize = 0;
-    while e < edges {
-        let at = e;
-        e += 1;
-        if leads_on(t, of, avoid, set, at) {
-            let next = with(set, edge_to(t, of, at));
+    let mut i: usize = 0;
+    while i < edges {
+        let e = turned(back, edges, i);
+        i += 1;
+        if leads_on(t, of, avoid, set, e) {
+            let next = with(set, edge_to(t, of, e));
             set = next;
             grew = true;
         }
@@ -51,18 +58,21 @@ fn sweep(t: &[u8], of: Counts, avoid: [u64; 8], from: [u64; 8]) -> Growth
     Growth { set, grew }
 }
 
-// The nodes that are reached from a set by paths none of whose nodes after the first is to be avoided.
+// The nodes that are reached from a set by paths none of whose nodes after the first is to be avoided. Sweeps go to and fro,
+// so that edges in a line take few of them whichever way they are listed.
 pub(crate) fn reach(t: &[u8], of: Counts, avoid: [u64; 8], from: [u64; 8]) -> [u64; 8]
     requires { ⌜ Ready (now t) of ⌝ }
     ensures { λ r. ⌜ ((n : ℕ) → (member r n ≡ true) ↔ From (programOf (now (t .entry))) (member avoid) (member from) n) ⌝ }
 {
     let mut set = from;
     let mut grew = true;
+    let mut back = false;
     while grew {
-        let swept = sweep(t, of, avoid, set);
+        let swept = sweep(t, of, avoid, set, back);
         let next = swept.set;
         set = next;
         grew = swept.grew;
+        back = !back;
     }
     set
 }
