@@ -1,0 +1,3 @@
+-- For the crates above: laws of the rules, and of sizes as numbers.
+pub mod Laws
+pub mod Values

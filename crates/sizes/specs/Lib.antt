@@ -1,0 +1,4 @@
+-- What is believed, in reading order.
+pub mod Size
+pub mod Choice
+pub mod Rules
