@@ -27,7 +27,7 @@ fn is_call_of(t: &[u8], of: Counts, f: usize, set: [u64; 8], n: usize) -> bool
     ensures { λ r. ⌜ r ≡ callOf (now (t .entry)) f set n ⌝ }
 {
     let sort = program::sort(t, of, n);
-    let target = program::target(t, of, n);
+    let target = program::target_of(t, of, n);
     (sort == 1) & (target == f) & !has(set, n)
 }
 

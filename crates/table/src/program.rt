@@ -32,7 +32,7 @@ pub fn sort(t: &[u8], of: Counts, n: usize) -> u8
 }
 
 // The target of node n: 0 where it is no call or spawn.
-pub fn target(t: &[u8], of: Counts, n: usize) -> usize
+pub fn target_of(t: &[u8], of: Counts, n: usize) -> usize
     requires { ⌜ Ready (now t) of × (n < of .nodes) ⌝ }
     ensures { λ x. ⌜ (x ≡ programOf (now (t .entry)) .target n) × (x < of .functions) ⌝ }
 {

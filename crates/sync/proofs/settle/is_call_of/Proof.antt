@@ -5,8 +5,8 @@ use Rattle.sync.proofs.settle.is_call_of.Tie as tie
 sort-requires : tie.Need-sort-requires
 sort-requires c κs = search needs
 
-target-requires : tie.Need-target-requires
-target-requires c κs = search needs
+target-of-requires : tie.Need-target-of-requires
+target-of-requires c κs = search needs
 
 has-requires : tie.Need-has-requires
 has-requires c κs = search needs
@@ -15,4 +15,4 @@ returns : tie.Need-returns
 returns c = cc
 
 pub is-call-of-spec : {M : Type 1} → statement M
-is-call-of-spec = tie.close (tie.spec sort-requires target-requires has-requires returns)
+is-call-of-spec = tie.close (tie.spec sort-requires target-of-requires has-requires returns)
