@@ -1,3 +1,7 @@
 -- For the crates above: laws of the rules, and of sizes as numbers.
 pub mod Laws
 pub mod Values
+-- How the promises come about.
+mod Ahead
+mod Derived
+mod Solved

@@ -2,3 +2,6 @@
 pub mod Size
 pub mod Choice
 pub mod Rules
+pub mod Sums
+-- What only helps proofs.
+pub mod System
