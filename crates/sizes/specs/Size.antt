@@ -1,5 +1,7 @@
 -- Document 01, "Sizes and their rules": sizes as numbers, and what each case of the code's `Size` stands for.
 use Prim.Native.Nat.{ℕ, min}
+use mathlib.Core.Bool.{cond}
+use lib.Dec.{ltb}
 use Rattle.sizes.specs.declared.size.Size.{Size}
 use Rattle.sizes.specs.declared.size.Size.the-variants.{Bytes, Unbounded}
 
@@ -15,3 +17,7 @@ cap x = min x unbounded
 abbrev pub valueOf : Size → ℕ
 valueOf (Bytes n) = cap n
 valueOf Unbounded = unbounded
+
+-- the case that a number is written as: "a number of bytes up to 65,535 or unbounded". What the code makes is always this.
+unfoldable pub sizeOf : ℕ → Size
+sizeOf n = cond (ltb n unbounded) (Bytes n) Unbounded

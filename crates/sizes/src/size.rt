@@ -1,7 +1,7 @@
 // A size: "either a number of bytes up to 65,535 or unbounded".
 ghost use mathlib.Core.Path.{_≡_};
 ghost use Prim.Native.Nat.{_+_, max};
-ghost use Rattle.sizes.specs.Size.{cap, valueOf};
+ghost use Rattle.sizes.specs.Size.{sizeOf, valueOf};
 
 pub enum Size {
     Bytes(u32),
@@ -16,7 +16,7 @@ impl Size {
 
     // What a frame counts as.
     pub fn from_frame(bytes: u32) -> Size
-        ensures { λ r. ⌜ valueOf r ≡ cap bytes ⌝ }
+        ensures { λ r. ⌜ r ≡ sizeOf bytes ⌝ }
     {
         if Size::CEILING < bytes {
             return Size::Unbounded;
@@ -26,7 +26,7 @@ impl Size {
 
     // The sum: unbounded where it is above the ceiling or has an unbounded part.
     pub fn add(self, other: Size) -> Size
-        ensures { λ r. ⌜ valueOf r ≡ cap (valueOf self + valueOf other) ⌝ }
+        ensures { λ r. ⌜ r ≡ sizeOf (valueOf self + valueOf other) ⌝ }
     {
         match self {
             Size::Unbounded => Size::Unbounded,
@@ -47,16 +47,16 @@ impl Size {
 
     // The larger of the two; unbounded is above every number.
     pub fn max(self, other: Size) -> Size
-        ensures { λ r. ⌜ valueOf r ≡ max (valueOf self) (valueOf other) ⌝ }
+        ensures { λ r. ⌜ r ≡ sizeOf (max (valueOf self) (valueOf other)) ⌝ }
     {
         match self {
             Size::Unbounded => Size::Unbounded,
             Size::Bytes(a) => match other {
                 Size::Unbounded => Size::Unbounded,
                 Size::Bytes(b) => if a < b {
-                    Size::Bytes(b)
+                    Size::from_frame(b)
                 } else {
-                    Size::Bytes(a)
+                    Size::from_frame(a)
                 },
             },
         }

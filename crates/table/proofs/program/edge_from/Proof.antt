@@ -1,20 +1,14 @@
 use native.Mathlib.Omega.{arith}
-use Rattle.table.proofs.Ready.{from-given, few-functions, few-nodes, edges-few}
+use Rattle.table.proofs.Ready.{from-given, few-records}
 use borrow.Author.Needs.{needs}
 use Rattle.table.proofs.program.edge_from.Statement.{statement}
 use Rattle.table.proofs.program.edge_from.Tie as tie
 
 add-field-a : tie.Need-add-field-a
-add-field-a c =
-    let a = c .before .before .args in
-    let r = c .before .before .pre .0 in
-    omega (arith, few-functions (a .t .now) (a .of) r, few-nodes (a .t .now) (a .of) r, edges-few (a .t .now) (a .of) r)
+add-field-a c = omega (arith, few-records (c .before .before .args .t .now) (c .before .before .args .of) (c .before .before .pre .0))
 
 add-field-a-2 : tie.Need-add-field-a-2
-add-field-a-2 c =
-    let a = c .before .before .args in
-    let r = c .before .before .pre .0 in
-    omega (arith, few-functions (a .t .now) (a .of) r, few-nodes (a .t .now) (a .of) r, edges-few (a .t .now) (a .of) r)
+add-field-a-2 c = omega (arith, few-records (c .before .before .args .t .now) (c .before .before .args .of) (c .before .before .pre .0))
 
 field-a-requires : tie.Need-field-a-requires
 field-a-requires c κs = search needs

@@ -1,20 +1,14 @@
 use native.Mathlib.Omega.{arith}
-use Rattle.table.proofs.Ready.{to-given, few-functions, few-nodes, edges-few}
+use Rattle.table.proofs.Ready.{to-given, few-records}
 use borrow.Author.Needs.{needs}
 use Rattle.table.proofs.program.edge_to.Statement.{statement}
 use Rattle.table.proofs.program.edge_to.Tie as tie
 
 add-field-b : tie.Need-add-field-b
-add-field-b c =
-    let a = c .before .before .args in
-    let r = c .before .before .pre .0 in
-    omega (arith, few-functions (a .t .now) (a .of) r, few-nodes (a .t .now) (a .of) r, edges-few (a .t .now) (a .of) r)
+add-field-b c = omega (arith, few-records (c .before .before .args .t .now) (c .before .before .args .of) (c .before .before .pre .0))
 
 add-field-b-2 : tie.Need-add-field-b-2
-add-field-b-2 c =
-    let a = c .before .before .args in
-    let r = c .before .before .pre .0 in
-    omega (arith, few-functions (a .t .now) (a .of) r, few-nodes (a .t .now) (a .of) r, edges-few (a .t .now) (a .of) r)
+add-field-b-2 c = omega (arith, few-records (c .before .before .args .t .now) (c .before .before .args .of) (c .before .before .pre .0))
 
 field-b-requires : tie.Need-field-b-requires
 field-b-requires c κs = search needs

@@ -1,14 +1,11 @@
 use native.Mathlib.Omega.{arith}
-use Rattle.table.proofs.Ready.{sort-given, few-functions, few-nodes, edges-few}
+use Rattle.table.proofs.Ready.{sort-given, few-records}
 use borrow.Author.Needs.{needs}
 use Rattle.table.proofs.program.sort.Statement.{statement}
 use Rattle.table.proofs.program.sort.Tie as tie
 
 add-sort : tie.Need-add-sort
-add-sort c =
-    let a = c .before .before .args in
-    let r = c .before .before .pre .0 in
-    omega (arith, few-functions (a .t .now) (a .of) r, few-nodes (a .t .now) (a .of) r, edges-few (a .t .now) (a .of) r)
+add-sort c = omega (arith, few-records (c .before .before .args .t .now) (c .before .before .args .of) (c .before .before .pre .0))
 
 sort-requires : tie.Need-sort-requires
 sort-requires c κs = search needs
