@@ -3,5 +3,6 @@ pub mod Laws
 pub mod Values
 -- How the promises come about.
 mod Ahead
+mod Targets
 mod Derived
 mod Solved

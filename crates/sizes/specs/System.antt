@@ -2,19 +2,20 @@
 use Prim.Native.Nat.{ℕ, _+_, _*_, _<_, _≤_}
 use mathlib.Core.Path.{_≡_}
 use mathlib.Core.List.{List, [], _∷_}
-use mathlib.Core.Bool.{Bool, true, false}
+use mathlib.Core.Bool.{Bool, true, cond, not, _&&_, _||_}
+use lib.Dec.{eqb, leb}
 use Rattle.table.specs.Record.{call, spawn}
 use Rattle.table.specs.Program.{Program}
 use Rattle.sizes.specs.Size.{cap}
-use Rattle.sizes.specs.Choice.{Merges, LeavesUnguarded}
+use Rattle.sizes.specs.Choice.{guarded, unguarded}
 use Rattle.sizes.specs.Rules.{total, post, pre, through, frameOf}
+use Rattle.sizes.specs.declared.sums.Sum.{Sum}
+use Rattle.sizes.specs.declared.sums.Sum.the-variants.{After, Before, Through}
 
--- A size, by its place in the written order, or a sum of a node. The largest over open paths of:
--- after n: Post of the first node and Through of the others, on paths that end at n with no member after the first;
--- before n: Through of all but the last and Pre of the last, on paths that start at n with no member before the last;
--- along n: Through of all, on paths from the function's first node to n with no member after the first.
+-- A size, by its place in the written order, or a sum of a node, as the code's `Sum` describes it.
 pub data Entry : Type 0 where
-  size after before along : ℕ → Entry
+  size : ℕ → Entry
+  along : Sum → ℕ → Entry
 
 abbrev pub functionEntry : ℕ → ℕ → Entry
 functionEntry k f = size (4 * f + k)
@@ -22,89 +23,116 @@ functionEntry k f = size (4 * f + k)
 abbrev pub nodeEntry : Program → ℕ → ℕ → Entry
 nodeEntry g k n = size (4 * (g .functions + n) + k)
 
+-- What a rule says: its head is at least its base and the entries of its body, added up.
+pub record Form : Type 0 where
+  pub head : Entry
+  pub base : ℕ
+  pub body : List Entry
+
+-- The kind of size that a sum starts from at a node, and of the size that it gives a function.
+abbrev pub kind : Sum → ℕ
+kind After = post
+kind Before = pre
+kind Through = through
+
+-- It starts at node n:
+abbrev pub starts : Program → Sum → ℕ → Bool
+starts g After n = true
+starts g Before n = true
+starts g Through n = eqb n (g .first (g .owner n))
+
+-- it runs along an edge from p to n, or against it,
+abbrev pub from : Sum → ℕ → ℕ → ℕ
+from After p n = p
+from Before p n = n
+from Through p n = p
+
+abbrev pub to : Sum → ℕ → ℕ → ℕ
+to After p n = n
+to Before p n = p
+to Through p n = n
+
+-- where no member of the set is in the way,
+abbrev pub steps : (ℕ → Bool) → (ℕ → Bool) → Sum → ℕ → ℕ → Bool
+steps set reached After p n = not (set n)
+steps set reached Before p n = not (set p)
+steps set reached Through p n = not (set n) && reached p
+
+-- and at one node of function f it is done, if it gets there; the frame may be due besides.
+abbrev pub ending : Program → Sum → ℕ → ℕ
+ending g After f = g .exit f
+ending g Before f = g .first f
+ending g Through f = g .exit f
+
+abbrev pub ends : Program → (ℕ → Bool) → Sum → ℕ → Bool
+ends g reached After f = true
+ends g reached Before f = true
+ends g reached Through f = reached (g .exit f)
+
+abbrev pub due : Program → Sum → ℕ → ℕ
+due g After f = 0
+due g Before f = frameOf g f
+due g Through f = 0
+
+-- Whether size k of node n rests on its target, and on which of the target's sizes.
+unfoldable pub takes : Program → (ℕ → ℕ) → ℕ → ℕ → Bool
+takes g choice n k = eqb (g .sort n) call || (eqb (g .sort n) spawn && (leb unguarded (choice n) || (leb guarded (choice n) && leb k post)))
+
+unfoldable pub taken : Program → ℕ → ℕ → ℕ
+taken g n k = cond (eqb (g .sort n) call) k total
+
 module _ (g : Program) (set reached : ℕ → Bool) (choice : ℕ → ℕ) where
   pub data Rule : Type 0 where
-    after-own : (n : ℕ) → n < g .nodes → Rule
-    after-edge : (p n : ℕ) → g .edge p n ≡ true → set n ≡ false → Rule
-    before-own : (n : ℕ) → n < g .nodes → Rule
-    before-edge : (p n : ℕ) → g .edge p n ≡ true → set p ≡ false → Rule
-    along-own : (f : ℕ) → f < g .functions → Rule
-    along-edge : (p n : ℕ) → g .edge p n ≡ true → set n ≡ false → reached p ≡ true → Rule
+    start : (s : Sum) (n : ℕ) → n < g .nodes → starts g s n ≡ true → Rule
+    step-on : (s : Sum) (p n : ℕ) → g .edge p n ≡ true → steps set reached s p n ≡ true → Rule
+    end : (s : Sum) (f : ℕ) → f < g .functions → ends g reached s f ≡ true → Rule
     total-node : (n : ℕ) → n < g .nodes → Rule
     total-edge : (p n : ℕ) → g .edge p n ≡ true → Rule
-    post-exit : (f : ℕ) → f < g .functions → Rule
-    pre-first : (f : ℕ) → f < g .functions → Rule
-    through-exit : (f : ℕ) → f < g .functions → reached (g .exit f) ≡ true → Rule
-    call-of : (n k : ℕ) → n < g .nodes → g .sort n ≡ call → k ≤ through → Rule
-    merged-of : (n k : ℕ) → n < g .nodes → g .sort n ≡ spawn → Merges choice n → k ≤ post → Rule
-    unguarded-of : (n k : ℕ) → n < g .nodes → g .sort n ≡ spawn → LeavesUnguarded choice n → k ≤ through → Rule
+    target-of : (n k : ℕ) → n < g .nodes → k ≤ through → takes g choice n k ≡ true → Rule
 
-  -- what a rule raises
-  abbrev pub headOf : Rule → Entry
-  headOf (after-own n h) = after n
-  headOf (after-edge p n e s) = after n
-  headOf (before-own n h) = before n
-  headOf (before-edge p n e s) = before p
-  headOf (along-own f h) = along (g .first f)
-  headOf (along-edge p n e s r) = along n
-  headOf (total-node n h) = functionEntry total (g .owner n)
-  headOf (total-edge p n e) = functionEntry total (g .owner n)
-  headOf (post-exit f h) = functionEntry post f
-  headOf (pre-first f h) = functionEntry pre f
-  headOf (through-exit f h r) = functionEntry through f
-  headOf (call-of n k h s l) = nodeEntry g k n
-  headOf (merged-of n k h s m l) = nodeEntry g k n
-  headOf (unguarded-of n k h s m l) = nodeEntry g k n
+-- What the rules say; each of these is given by numbers alone.
+abbrev pub startForm : Program → Sum → ℕ → Form
+startForm g s n = record { head = along s n; base = 0; body = nodeEntry g (kind s) n ∷ [] }
 
-  -- the frame in its sum, or 0
-  abbrev pub baseOf : Rule → ℕ
-  baseOf (after-own n h) = 0
-  baseOf (after-edge p n e s) = 0
-  baseOf (before-own n h) = 0
-  baseOf (before-edge p n e s) = 0
-  baseOf (along-own f h) = 0
-  baseOf (along-edge p n e s r) = 0
-  baseOf (total-node n h) = frameOf g (g .owner n)
-  baseOf (total-edge p n e) = frameOf g (g .owner n)
-  baseOf (post-exit f h) = 0
-  baseOf (pre-first f h) = frameOf g f
-  baseOf (through-exit f h r) = 0
-  baseOf (call-of n k h s l) = 0
-  baseOf (merged-of n k h s m l) = 0
-  baseOf (unguarded-of n k h s m l) = 0
+abbrev pub stepForm : Program → Sum → ℕ → ℕ → Form
+stepForm g s p n = record { head = along s (to s p n); base = 0; body = along s (from s p n) ∷ nodeEntry g through (to s p n) ∷ [] }
 
-  -- the entries in its sum
-  abbrev pub bodyOf : Rule → List Entry
-  bodyOf (after-own n h) = nodeEntry g post n ∷ []
-  bodyOf (after-edge p n e s) = after p ∷ nodeEntry g through n ∷ []
-  bodyOf (before-own n h) = nodeEntry g pre n ∷ []
-  bodyOf (before-edge p n e s) = nodeEntry g through p ∷ before n ∷ []
-  bodyOf (along-own f h) = nodeEntry g through (g .first f) ∷ []
-  bodyOf (along-edge p n e s r) = along p ∷ nodeEntry g through n ∷ []
-  bodyOf (total-node n h) = nodeEntry g total n ∷ []
-  bodyOf (total-edge p n e) = after p ∷ nodeEntry g pre n ∷ []
-  bodyOf (post-exit f h) = after (g .exit f) ∷ []
-  bodyOf (pre-first f h) = before (g .first f) ∷ []
-  bodyOf (through-exit f h r) = along (g .exit f) ∷ []
-  bodyOf (call-of n k h s l) = functionEntry k (g .target n) ∷ []
-  bodyOf (merged-of n k h s m l) = functionEntry total (g .target n) ∷ []
-  bodyOf (unguarded-of n k h s m l) = functionEntry total (g .target n) ∷ []
+abbrev pub endForm : Program → Sum → ℕ → Form
+endForm g s f = record { head = functionEntry (kind s) f; base = due g s f; body = along s (ending g s f) ∷ [] }
+
+abbrev pub totalNodeForm : Program → ℕ → Form
+totalNodeForm g n = record { head = functionEntry total (g .owner n); base = frameOf g (g .owner n); body = nodeEntry g total n ∷ [] }
+
+abbrev pub totalEdgeForm : Program → ℕ → ℕ → Form
+totalEdgeForm g p n = record { head = functionEntry total (g .owner n); base = frameOf g (g .owner n); body = along After p ∷ nodeEntry g pre n ∷ [] }
+
+abbrev pub targetForm : Program → ℕ → ℕ → Form
+targetForm g n k = record { head = nodeEntry g k n; base = 0; body = functionEntry (taken g n k) (g .target n) ∷ [] }
+
+module _ {g : Program} {set reached : ℕ → Bool} {choice : ℕ → ℕ} where
+  abbrev pub formOf : Rule g set reached choice → Form
+  formOf (start s n h b) = startForm g s n
+  formOf (step-on s p n e b) = stepForm g s p n
+  formOf (end s f h b) = endForm g s f
+  formOf (total-node n h) = totalNodeForm g n
+  formOf (total-edge p n e) = totalEdgeForm g p n
+  formOf (target-of n k h l b) = targetForm g n k
 
 abbrev pub sumOf : (Entry → ℕ) → List Entry → ℕ
 sumOf v [] = 0
 sumOf v (x ∷ l) = v x + sumOf v l
 
-module _ (g : Program) (set reached : ℕ → Bool) (choice : ℕ → ℕ) where
-  -- what a rule gives from the entries' present values
-  abbrev pub gives : (Entry → ℕ) → Rule g set reached choice → ℕ
-  gives v r = cap (baseOf g set reached choice r + sumOf v (bodyOf g set reached choice r))
+-- what a rule gives from the entries' present values
+abbrev pub gives : (Entry → ℕ) → Form → ℕ
+gives v f = cap (f .base + sumOf v (f .body))
 
+module _ (g : Program) (set reached : ℕ → Bool) (choice : ℕ → ℕ) where
   -- what the rules derive: 0, and what a rule gives from derived values, or less
   pub data Der : Entry → ℕ → Type 0 where
     none : {x : Entry} → Der x 0
-    rule : {x : Entry} {t : ℕ} (r : Rule g set reached choice) (v : Entry → ℕ) → x ≡ headOf g set reached choice r → ((y : Entry) → Der y (v y)) → t ≤ gives v r → Der x t
+    rule : {x : Entry} {t : ℕ} (r : Rule g set reached choice) (v : Entry → ℕ) → x ≡ formOf r .head → ((y : Entry) → Der y (v y)) → t ≤ gives v (formOf r) → Der x t
 
   -- values that are derived, and from which no rule raises anything
   pub record Solved (v : Entry → ℕ) : Type 0 where
     pub derived : (x : Entry) → Der x (v x)
-    pub closed : (r : Rule g set reached choice) → gives v r ≤ v (headOf g set reached choice r)
+    pub closed : (r : Rule g set reached choice) → gives v (formOf r) ≤ v (formOf r .head)
