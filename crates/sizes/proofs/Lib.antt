@@ -4,5 +4,7 @@ pub mod Values
 -- How the promises come about.
 mod Ahead
 mod Targets
+mod Causes
+mod Passes
 mod Derived
 mod Solved

@@ -5,3 +5,5 @@ pub mod Rules
 pub mod Sums
 -- What only helps proofs.
 pub mod System
+pub mod Causes
+pub mod Passes
