@@ -4,7 +4,7 @@ pub mod Values
 -- How the promises come about.
 mod Ahead
 mod Targets
-mod Causes
+mod Rises
 mod Passes
 mod Derived
 mod Solved

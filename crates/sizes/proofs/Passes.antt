@@ -15,7 +15,7 @@ use Rattle.sizes.specs.Causes.{Given, RuleOf, offset, entryCount, entryA
 use Rattle.sizes.specs.Passes.{Values, sums, valueAt, putSums, putSizes, room, roomOf, State, Passed, Held, Sized, Summed, Pass, Can}
 use Rattle.sizes.specs.declared.sums.Sum.{Sum}
 use Rattle.sizes.specs.declared.sums.Sum.the-variants.{After, Before, Through}
-use Rattle.sizes.proofs.Causes.{In, Put, PutCause, entry-size, entry-along, der-le, risen-ok, leapt-ok}
+use Rattle.sizes.proofs.Rises.{In, Put, PutCause, entry-size, entry-along, der-le, risen-ok, leapt-ok}
 
 room-set : (l : List ℕ) (i v : ℕ) → i < length l → room (set l i v) + (unbounded - at l i) ≡ room l + (unbounded - v)
 room-set [] i v h = absurd (omega arith)

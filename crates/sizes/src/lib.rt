@@ -1,3 +1,4 @@
 // The sizes of a choice. Document 01, "Sizes and their rules".
+mod causes;
 pub mod size;
 mod sums;

@@ -24,6 +24,16 @@ impl Size {
         Size::Bytes(bytes)
     }
 
+    // How it is written: unbounded as 65,536.
+    pub fn number(self) -> u32
+        ensures { λ r. ⌜ r ≡ valueOf self ⌝ }
+    {
+        match self {
+            Size::Unbounded => 65536,
+            Size::Bytes(n) => if Size::CEILING < n { 65536 } else { n },
+        }
+    }
+
     // The sum: unbounded where it is above the ceiling or has an unbounded part.
     pub fn add(self, other: Size) -> Size
         ensures { λ r. ⌜ r ≡ sizeOf (valueOf self + valueOf other) ⌝ }

@@ -56,6 +56,14 @@ place-entry x = go (decLt x 2304) (decLt x 2816) (decLt x 3328)
 pub entry-other : (x y : ℕ) → x ≢ y → entryAt x ≢ entryAt y
 entry-other x y n e = n (sym (place-entry x) ∙ ap place e ∙ place-entry y)
 
+-- ---- chains of causes, step by step
+
+pub chain-met : (k : ℕ → ℕ) (z x : ℕ) → x ≡ z → x < entryCount → Chain k z x
+chain-met k z x e h = subst (Chain k z) (sym e) (met (omega arith))
+
+pub chain-via : (k : ℕ → ℕ) (z x y : ℕ) → y ≡ k x → x < entryCount → Chain k z y → Chain k z x
+chain-via k z x y e h c = via h (subst (Chain k z) e c)
+
 -- ---- values, changed at one entry
 
 abbrev pub Below : (Entry → ℕ) → (Entry → ℕ) → Type 0

@@ -1,0 +1,97 @@
+use mathlib.Core.Path.{refl, _∙_}
+use mathlib.Core.Logic.{inl, inr, ⊎-elim}
+use native.Mathlib.Omega.{arith}
+use Rattle.sizes.specs.Causes.{kept, risen, leapt}
+use borrow.Author.Needs.{needs}
+use Rattle.sizes.proofs.causes.raised.Statement.{statement}
+use Rattle.sizes.proofs.causes.raised.Tie as tie
+
+number-requires : tie.Need-number-requires
+number-requires c κs = search needs
+
+number-requires-2 : tie.Need-number-requires-2
+number-requires-2 c κs = search needs
+
+returns : tie.Need-returns
+returns c = kept (omega (arith, c .before .number2 .ensures, c .before .before .number .ensures)) refl refl refl
+
+add-tick : tie.Need-add-tick
+add-tick c = search needs
+
+caused-requires : tie.Need-caused-requires
+caused-requires c κs = search needs
+
+mul-causes : tie.Need-mul-causes
+mul-causes c = search needs
+
+slice-write-causes : tie.Need-slice-write-causes
+slice-write-causes c = search needs
+
+same-length : tie.Need-same-length
+same-length c = search needs
+
+returns-2 : tie.Need-returns-2
+returns-2 c =
+    leapt
+    (omega (arith, c .before .before .before .before .before .number2 .ensures, c .before .before .before .before .before .before .number .ensures))
+    (c .before .caused .ensures (c .if2 .taken))
+    refl
+    refl
+    refl
+
+later-requires : tie.Need-later-requires
+later-requires c κs = search needs
+
+mul-stamps : tie.Need-mul-stamps
+mul-stamps c = search needs
+
+slice-write-stamps : tie.Need-slice-write-stamps
+slice-write-stamps c = search needs
+
+narrow-requires : tie.Need-narrow-requires
+narrow-requires c κs = ⊎-elim (λ e. omega arith) (λ e. omega arith) (c .later .ensures)
+
+mul-causes-2 : tie.Need-mul-causes-2
+mul-causes-2 c = search needs
+
+slice-write-causes-2 : tie.Need-slice-write-causes-2
+slice-write-causes-2 c = search needs
+
+same-length-2 : tie.Need-same-length-2
+same-length-2 c = search needs
+
+same-length-3 : tie.Need-same-length-3
+same-length-3 c = search needs
+
+returns-3 : tie.Need-returns-3
+returns-3 c =
+    risen
+    (omega (arith, c .before .before .before .before .before .before .before .before .number2 .ensures, c .before .before .before .before .before .before .before .before .before .number .ensures))
+    (c .narrow .result)
+    (⊎-elim (λ e. inl (c .narrow .ensures ∙ e)) (λ e. inr (c .narrow .ensures ∙ e)) (c .before .later .ensures))
+    refl
+    refl
+    refl
+
+pub raised-spec : {M : Type 1} → statement M
+raised-spec =
+    tie.close
+    (tie.spec
+    number-requires
+    number-requires-2
+    returns
+    add-tick
+    caused-requires
+    mul-causes
+    slice-write-causes
+    same-length
+    returns-2
+    later-requires
+    mul-stamps
+    slice-write-stamps
+    narrow-requires
+    mul-causes-2
+    slice-write-causes-2
+    same-length-2
+    same-length-3
+    returns-3)

@@ -1,0 +1,93 @@
+// Causes: for each entry, the entry of its rule that made it rise last. An entry that would rise because of itself is
+// unbounded, at once. An entry is a size, by its place in the written order, or a sum of a node, by `sums::number`.
+use crate::size::Size;
+ghost use mathlib.Core.Path.{_≡_};
+ghost use mathlib.Core.Bool.{true};
+ghost use mathlib.Core.Logic.{_⊎_};
+ghost use Prim.Native.Nat.{_<_};
+ghost use lib.ListN.{length};
+ghost use Rattle.sizes.specs.Size.{valueOf};
+ghost use Rattle.sizes.specs.Causes.{at, Chain, Raised};
+
+fn wide(x: u16) -> usize
+    ensures { λ r. ⌜ r ≡ x ⌝ }
+{
+    x as usize
+}
+
+fn narrow(x: usize) -> u16
+    requires { ⌜ x < 65536 ⌝ }
+    ensures { λ r. ⌜ r ≡ x ⌝ }
+{
+    x as u16
+}
+
+// Whether the causes lead from one entry to another; a cause past the last entry is none. What is promised is what makes
+// a leap right; that no chain is missed makes it quick, and is seen from the passes that are counted.
+fn leads(causes: &[u16], from: usize, to: usize) -> bool
+    requires { ⌜ length (now causes) ≡ 3840 ⌝ }
+    ensures { λ r. ⌜ (r ≡ true → Chain (at (now (causes .entry))) to from) ⌝ }
+{
+    let mut entry = from;
+    let mut left = causes.len();
+    while 0 < left {
+        left -= 1;
+        if causes.len() <= entry {
+            return false;
+        }
+        if entry == to {
+            return true;
+        }
+        entry = wide(causes[entry]);
+    }
+    false
+}
+
+// Whether y or z rose because of x.
+fn caused(causes: &[u16], x: usize, y: usize, z: usize) -> bool
+    requires { ⌜ length (now causes) ≡ 3840 ⌝ }
+    ensures { λ r. ⌜ (r ≡ true → Chain (at (now (causes .entry))) x y ⊎ Chain (at (now (causes .entry))) x z) ⌝ }
+{
+    if leads(causes, y, x) {
+        return true;
+    }
+    leads(causes, z, x)
+}
+
+// The one of y and z that rose last.
+fn later(stamps: &[u32], y: usize, z: usize) -> usize
+    requires { ⌜ (y < length (now stamps)) × (z < length (now stamps)) ⌝ }
+    ensures { λ r. ⌜ (r ≡ y) ⊎ (r ≡ z) ⌝ }
+{
+    if stamps[y] < stamps[z] { z } else { y }
+}
+
+// What entry x, which has `old`, has where a rule asks for `sum` from the entries y and z. The clock counts the rises.
+pub(crate) fn raised(
+    causes: &mut [u16],
+    stamps: &mut [u32],
+    clock: &mut u32,
+    x: usize,
+    old: Size,
+    y: usize,
+    z: usize,
+    sum: Size,
+) -> Size
+    requires { ⌜ (length (now causes) ≡ 3840) × (length (now stamps) ≡ 3840) × (now clock < 1000000000) ⌝ }
+    requires { ⌜ (x < 3840) × (y < 3840) × (z < 3840) ⌝ }
+    ensures { λ r. ⌜ Raised (now (causes .entry)) x (valueOf old) y z (valueOf sum) (now (clock .entry)) (now (causes .exit)) (valueOf r) (now (clock .exit)) ⌝ }
+{
+    if sum.number() <= old.number() {
+        return old;
+    }
+    let tick = *clock + 1;
+    *clock = tick;
+    if caused(causes, x, y, z) {
+        causes[x] = 65535;
+        return Size::Unbounded;
+    }
+    let cause = later(stamps, y, z);
+    stamps[x] = tick;
+    causes[x] = narrow(cause);
+    sum
+}
