@@ -4,12 +4,12 @@ use mathlib.Core.Path.{_≡_, refl, sym, ap, ap₂, _∙_}
 use mathlib.Core.List.{List}
 use mathlib.Core.Bool.{true}
 use native.Mathlib.Omega.{arith}
-use Rattle.table.specs.Record.{sortOf, fieldA, fieldB, edgeRecord, edgeFrom, edgeTo}
+use Rattle.table.specs.Record.{sortOf, fieldA, fieldB, fieldC, edgeRecord, edgeFrom, edgeTo}
 use Rattle.table.specs.Answer.{Ready}
 use Rattle.table.specs.Program.{programOf}
 use Rattle.table.specs.WellFormed.{WellFormed}
 use Rattle.table.specs.declared.Counts.{Counts}
-use Rattle.table.proofs.Laws.{well-formed, few-edges, functions-read, nodes-read, first-read, exit-read, sort-read, target-read, edge-read}
+use Rattle.table.proofs.Laws.{well-formed, few-edges, functions-read, nodes-read, first-read, exit-read, frame-read, sort-read, owner-read, target-read, edge-read}
 
 module _ (t : List ℕ) (c : Counts) (r : Ready t c) where
   formed : WellFormed (programOf t)
@@ -46,9 +46,18 @@ module _ (t : List ℕ) (c : Counts) (r : Ready t c) where
       let y : x ≡ programOf t .exit f = e ∙ sym (exit-read t f (omega (arith, r .counts-are .functions-are))) in
       (y, omega (arith, nodes-are, formed .exit-own f (omega (arith, functions-are)) .exists))
 
+  pub frame-given : (f x : ℕ) → f < c .functions → x ≡ fieldC t f → x ≡ programOf t .frame f
+  frame-given f x h e = e ∙ sym (frame-read t f (omega (arith, r .counts-are .functions-are)))
+
   pub sort-given : (n x : ℕ) → n < c .nodes → x ≡ sortOf t (c .functions + n) → x ≡ programOf t .sort n
   sort-given n x h e =
       e ∙ ap (λ (m : ℕ). sortOf t (m + n)) (r .counts-are .functions-are) ∙ sym (sort-read t n (omega (arith, r .counts-are .nodes-are)))
+
+  pub owner-given : (n x : ℕ) → n < c .nodes → x ≡ fieldA t (c .functions + n) → (x ≡ programOf t .owner n) × (x < c .functions)
+  owner-given n x h e =
+      let y : x ≡ programOf t .owner n =
+      e ∙ ap (λ (m : ℕ). fieldA t (m + n)) (r .counts-are .functions-are) ∙ sym (owner-read t n (omega (arith, r .counts-are .nodes-are))) in
+      (y, omega (arith, functions-are, formed .owner-exists n (omega (arith, nodes-are))))
 
   pub target-given : (n x : ℕ) → n < c .nodes → x ≡ fieldB t (c .functions + n) → (x ≡ programOf t .target n) × (x < c .functions)
   target-given n x h e =

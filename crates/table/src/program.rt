@@ -23,12 +23,28 @@ pub fn exit(t: &[u8], of: Counts, f: usize) -> usize
     record::field_b(t, f)
 }
 
+// The frame of function f, in bytes.
+pub fn frame(t: &[u8], of: Counts, f: usize) -> usize
+    requires { ⌜ Ready (now t) of × (f < of .functions) ⌝ }
+    ensures { λ x. ⌜ (x ≡ programOf (now (t .entry)) .frame f) × (x < 65536) ⌝ }
+{
+    record::field_c(t, f)
+}
+
 // The sort of node n.
 pub fn sort(t: &[u8], of: Counts, n: usize) -> u8
     requires { ⌜ Ready (now t) of × (n < of .nodes) ⌝ }
     ensures { λ x. ⌜ x ≡ programOf (now (t .entry)) .sort n ⌝ }
 {
     record::sort(t, of.functions + n)
+}
+
+// The function that owns node n.
+pub fn owner(t: &[u8], of: Counts, n: usize) -> usize
+    requires { ⌜ Ready (now t) of × (n < of .nodes) ⌝ }
+    ensures { λ x. ⌜ (x ≡ programOf (now (t .entry)) .owner n) × (x < of .functions) ⌝ }
+{
+    record::field_a(t, of.functions + n)
 }
 
 // The target of node n: 0 where it is no call or spawn.
