@@ -6,5 +6,7 @@ mod Ahead
 mod Targets
 mod Rises
 mod Passes
+mod Maps
+mod Along
 mod Derived
 mod Solved

@@ -8,14 +8,17 @@ use native.Mathlib.Omega.{arith}
 use native.Mathlib.Decide.{ℕ-discrete}
 use lib.ListN.{length, set, length-set}
 use lib.Seq.{getD-set-same, getD-set-other, set-getD}
+use Rattle.table.specs.Answer.{Ready}
+use Rattle.table.specs.declared.Counts.{Counts}
 use Rattle.table.proofs.Booleans.{not-both}
+use Rattle.table.proofs.Ready.{few-functions, few-nodes}
 use Rattle.sizes.specs.Size.{unbounded}
 use Rattle.sizes.specs.System.{Entry, size, along, Form, formOf, gives}
 use Rattle.sizes.specs.Causes.{Given, RuleOf, offset, entryCount, entryAt, Ok, at, Chain, uncaused, Raised, kept, risen, leapt}
 use Rattle.sizes.specs.Passes.{Values, sums, valueAt, putSums, putSizes, room, roomOf, State, Passed, Held, Sized, Summed, Pass, Can}
 use Rattle.sizes.specs.declared.sums.Sum.{Sum}
 use Rattle.sizes.specs.declared.sums.Sum.the-variants.{After, Before, Through}
-use Rattle.sizes.proofs.Rises.{In, Put, PutCause, entry-size, entry-along, der-le, risen-ok, leapt-ok}
+use Rattle.sizes.proofs.Rises.{In, here, Put, PutCause, entry-size, entry-along, der-le, risen-ok, leapt-ok}
 
 room-set : (l : List ℕ) (i v : ℕ) → i < length l → room (set l i v) + (unbounded - at l i) ≡ room l + (unbounded - v)
 room-set [] i v h = absurd (omega arith)
@@ -266,3 +269,52 @@ module _ (S : Given) (on : ℕ → Bool) (F : ℕ → Form) where
     where
       facts : (v : Values) → A v → State S (putSizes m v) l → (valueAt (putSizes m v) (entryAt x) ≡ at m x) × (gives (valueAt (putSizes m v)) (F i) ≡ sum) × Changed (putSizes m v) x t (putSizes (set m x t) v)
       facts v a st = (ap (valueAt (putSizes m v)) (entry-size x h), value v a, change-sizes m x t (omega (arith, st .sizes-long)) v (st .sizes-long))
+
+-- ---- a pass that goes on
+
+-- rule i of `count` is next
+pub record Going (S : Given) (of : Counts) (A : Values → Type 0) (put : List ℕ → Values → Values) (on : ℕ → Bool) (F : ℕ → Form) (count i : ℕ) (k : List ℕ) (clock : ℕ) (m l : List ℕ) (then : ℕ) (stamps : List ℕ) : Type 0 where
+  pub functions-few : of .functions ≤ 64
+  pub nodes-few : of .nodes ≤ 512
+  pub below : i ≤ count
+  pub causes-long : length l ≡ 3840
+  pub stamps-long : length stamps ≡ 3840
+  pub bound : then < 1000000000
+  pub can : Can S A k clock
+  pub pass : Pass S A put on F i k clock m l then
+
+module _ (S : Given) (t : List ℕ) (of : Counts) {A : Values → Type 0} {put : List ℕ → Values → Values} {on : ℕ → Bool} {F : ℕ → Form} (count : ℕ) where
+  going : {i : ℕ} {k : List ℕ} {clock : ℕ} {m l : List ℕ} {then : ℕ} {stamps : List ℕ} → of .functions ≤ 64 → of .nodes ≤ 512 → i ≤ count → length stamps ≡ 3840 → Can S A k clock → Pass S A put on F i k clock m l then → Going S of A put on F count i k clock m l then stamps
+  going a b h e c p =
+      let q = p .pass (c .values) (c .fits) (c .state) in
+      record {
+        functions-few = a;
+        nodes-few = b;
+        below = h;
+        causes-long = q .state .causes-long;
+        stamps-long = e;
+        bound = omega (arith, q .ticks, c .bound);
+        can = c;
+        pass = p;
+      }
+
+  pub going-first : {k : List ℕ} {clock : ℕ} {m : List ℕ} {stamps : List ℕ} → Ready t of → length stamps ≡ 3840 → Can S A k clock → Pass S A put on F 0 k clock m k clock → Going S of A put on F count 0 k clock m k clock stamps
+  going-first r e c p = going (few-functions t of r) (few-nodes t of r) (omega arith) e c p
+
+  module _ {i : ℕ} {k : List ℕ} {clock : ℕ} {m l : List ℕ} {then : ℕ} {stamps : List ℕ} (g : Going S of A put on F count i k clock m l then stamps) where
+    pub going-on : {m′ l′ : List ℕ} {then′ : ℕ} {stamps′ : List ℕ} → i < count → length stamps′ ≡ length stamps → Pass S A put on F (i + 1) k clock m′ l′ then′ → Going S of A put on F count (i + 1) k clock m′ l′ then′ stamps′
+    going-on h e p = going (g .functions-few) (g .nodes-few) (omega arith) (e ∙ g .stamps-long) (g .can) p
+
+    pub going-off : i < count → on i ≡ false → Going S of A put on F count (i + 1) k clock m l then stamps
+    going-off h o = going-on h refl (pass-off S on F (g .pass) o)
+
+    pub going-last : count ≤ i → Pass S A put on F count k clock m l then
+    going-last h = let e : i ≡ count = omega (arith, g .below) in rw e at (g .pass)
+
+-- ---- where the entries of a body stand
+
+pub in-size : (x y : ℕ) {l : List Entry} → x < 2304 → x ≡ y → In (entryAt x) (size y ∷ l)
+in-size x y {l} h e = subst (λ (z : Entry). In z (size y ∷ l)) (sym (entry-size x h ∙ ap size e)) here
+
+pub in-along : (s : Sum) (x m n : ℕ) {l : List Entry} → m < 512 → x ≡ offset s + m → m ≡ n → In (entryAt x) (along s n ∷ l)
+in-along s x m n {l} h e f = subst (λ (z : Entry). In z (along s n ∷ l)) (sym (ap entryAt e ∙ entry-along s m h ∙ ap (along s) f)) here

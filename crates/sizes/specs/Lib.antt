@@ -7,3 +7,4 @@ pub mod Sums
 pub mod System
 pub mod Causes
 pub mod Passes
+pub mod Known

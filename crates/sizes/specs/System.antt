@@ -30,10 +30,10 @@ pub record Form : Type 0 where
   pub body : List Entry
 
 -- The kind of size that a sum starts from at a node, and of the size that it gives a function.
-abbrev pub kind : Sum → ℕ
-kind After = post
-kind Before = pre
-kind Through = through
+abbrev pub kindFor : Sum → ℕ
+kindFor After = post
+kindFor Before = pre
+kindFor Through = through
 
 -- It starts at node n:
 abbrev pub starts : Program → Sum → ℕ → Bool
@@ -92,13 +92,13 @@ module _ (g : Program) (set reached : ℕ → Bool) (choice : ℕ → ℕ) where
 
 -- What the rules say; each of these is given by numbers alone.
 abbrev pub startForm : Program → Sum → ℕ → Form
-startForm g s n = record { head = along s n; base = 0; body = nodeEntry g (kind s) n ∷ [] }
+startForm g s n = record { head = along s n; base = 0; body = nodeEntry g (kindFor s) n ∷ [] }
 
 abbrev pub stepForm : Program → Sum → ℕ → ℕ → Form
 stepForm g s p n = record { head = along s (to s p n); base = 0; body = along s (from s p n) ∷ nodeEntry g through (to s p n) ∷ [] }
 
 abbrev pub endForm : Program → Sum → ℕ → Form
-endForm g s f = record { head = functionEntry (kind s) f; base = due g s f; body = along s (ending g s f) ∷ [] }
+endForm g s f = record { head = functionEntry (kindFor s) f; base = due g s f; body = along s (ending g s f) ∷ [] }
 
 abbrev pub totalNodeForm : Program → ℕ → Form
 totalNodeForm g n = record { head = functionEntry total (g .owner n); base = frameOf g (g .owner n); body = nodeEntry g total n ∷ [] }

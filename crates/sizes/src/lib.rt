@@ -2,3 +2,12 @@
 mod causes;
 pub mod size;
 mod sums;
+
+use table::Counts;
+
+// What the crates below have found of an accepted table: its counts, its synchronising nodes, and those that are reached without them.
+pub struct Known {
+    pub of: Counts,
+    pub synchronising: [u64; 8],
+    pub reached: [u64; 8],
+}

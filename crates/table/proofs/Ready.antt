@@ -19,10 +19,13 @@ module _ (t : List ℕ) (c : Counts) (r : Ready t c) where
   pub few-nodes : c .nodes ≤ 512
   few-nodes = omega (arith, formed .few-nodes, nodes-read t, r .counts-are .nodes-are)
 
+  pub few-functions : c .functions ≤ 64
+  few-functions = omega (arith, formed .few-functions, functions-read t, r .counts-are .functions-are)
+
   pub few-records : c .functions + c .nodes + c .edges ≤ 1600
   few-records =
       omega
-      (arith, few-nodes, formed .few-functions, functions-read t, r .counts-are .functions-are, few-edges t (r .accepted-is), r .counts-are .edges-are)
+      (arith, few-nodes, few-functions, few-edges t (r .accepted-is), r .counts-are .edges-are)
 
   -- and they are the program's
   pub functions-are : c .functions ≡ programOf t .functions

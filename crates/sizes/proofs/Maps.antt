@@ -1,0 +1,18 @@
+-- An array of sizes, as the list of their values.
+use Prim.Native.Nat.{ℕ, zero, suc}
+use mathlib.Core.Path.{_≡_, refl, sym, ap}
+use mathlib.Core.List.{List, [], _∷_, map}
+use lib.ListN.{getD, set, List·getD-map}
+use Rattle.sizes.specs.Size.{valueOf}
+use Rattle.sizes.specs.Causes.{at}
+use Rattle.sizes.specs.declared.size.Size.{Size}
+use Rattle.sizes.specs.declared.size.Size.the-variants.{Bytes}
+
+pub map-set : (l : List Size) (i : ℕ) (y : Size) → map valueOf (set l i y) ≡ set (map valueOf l) i (valueOf y)
+map-set [] i y = refl
+map-set (x ∷ xs) zero y = refl
+map-set (x ∷ xs) (suc i) y = ap (λ (r : List ℕ). valueOf x ∷ r) (map-set xs i y)
+
+-- an element of the values is the value of the element; past the end both are 0
+pub map-at : (l : List Size) (i : ℕ) → valueOf (getD l i (Bytes 0)) ≡ at (map valueOf l) i
+map-at l i = sym (List·getD-map valueOf l i (Bytes 0))
