@@ -5,26 +5,33 @@ use mathlib.Core.Bool.{true}
 use mathlib.Core.List.{List}
 use native.Mathlib.Omega.{arith}
 use lib.ListN.{set}
+use Rattle.table.specs.Record.{edgeFrom, edgeTo}
 use Rattle.table.specs.Answer.{Ready}
 use Rattle.table.specs.Program.{programOf}
-use Rattle.table.proofs.Ready.{few-functions, few-nodes, functions-are, nodes-are}
-use Rattle.sizes.specs.Size.{unbounded}
-use Rattle.sizes.specs.System.{size, along, kindFor, starts, start, startForm}
+use Rattle.table.proofs.Ready.{few-functions, few-nodes, functions-are, nodes-are, edge-is}
+use Rattle.sizes.specs.Size.{unbounded, cap}
+use Rattle.sizes.specs.System.{size, along, kindFor, starts, from, to, turn, start, step-on, startForm}
 use Rattle.sizes.specs.Causes.{offset, at, Raised}
 use Rattle.sizes.specs.Passes.{Values, Summed, putSums, valueAt, Pass}
-use Rattle.sizes.specs.Known.{given}
+use Rattle.sizes.specs.Known.{given, stepOn, stepOf}
 use Rattle.sizes.specs.declared.Known.{Known}
 use Rattle.sizes.specs.declared.sums.Sum.{Sum}
 use Rattle.sizes.specs.declared.sums.Sum.the-variants.{After, Before, Through}
+use Rattle.sizes.proofs.Rises.{there}
 use Rattle.sizes.proofs.Passes.{sums-raised, in-size, in-along, size-in-sums, sum-in-sums}
 
-kind-le : (s : Sum) → kindFor s ≤ 3
+pub kind-le : (s : Sum) → kindFor s ≤ 3
 kind-le After = omega arith
 kind-le Before = omega arith
 kind-le Through = omega arith
 
-module _ (t choice : List ℕ) (known : Known) (ready : Ready t (known .of)) (s : Sum) {sizes from k : List ℕ} {clock : ℕ} {m l : List ℕ} {then : ℕ} where
-  pub start-raised : (n part x old sum : ℕ) → Pass (given t choice known) (Summed s sizes from) (putSums s) (starts (programOf t) s) (startForm (programOf t) s) n k clock m l then → n < known .of .nodes → starts (programOf t) s n ≡ true → part ≡ 4 * (known .of .functions + n) + kindFor s → x ≡ offset s + n → old ≡ at m n → sum ≡ at sizes part → sum ≤ unbounded → {l′ : List ℕ} {u then′ : ℕ} → Raised l x old part part sum then l′ u then′ → Pass (given t choice known) (Summed s sizes from) (putSums s) (starts (programOf t) s) (startForm (programOf t) s) (n + 1) k clock (set m n u) l′ then′
+turn-low : (s : Sum) (k i : ℕ) → i < k → turn s k i < k
+turn-low After k i h = h
+turn-low Before k i h = omega arith
+turn-low Through k i h = h
+
+module _ (t choice : List ℕ) (known : Known) (ready : Ready t (known .of)) (s : Sum) {sizes first k : List ℕ} {clock : ℕ} {m l : List ℕ} {then : ℕ} where
+  pub start-raised : (n part x old sum : ℕ) → Pass (given t choice known) (Summed s sizes first) (putSums s) (starts (programOf t) s) (startForm (programOf t) s) n k clock m l then → n < known .of .nodes → starts (programOf t) s n ≡ true → part ≡ 4 * (known .of .functions + n) + kindFor s → x ≡ offset s + n → old ≡ at m n → sum ≡ at sizes part → sum ≤ unbounded → {l′ : List ℕ} {u then′ : ℕ} → Raised l x old part part sum then l′ u then′ → Pass (given t choice known) (Summed s sizes first) (putSums s) (starts (programOf t) s) (startForm (programOf t) s) (n + 1) k clock (set m n u) l′ then′
   start-raised n part x old sum p h b part-is x-is old-is sum-is le R =
       let f = functions-are t (known .of) ready in
       let e : part ≡ 4 * (programOf t .functions + n) + kindFor s = omega arith in
@@ -32,5 +39,19 @@ module _ (t choice : List ℕ) (known : Known) (ready : Ready t (known .of)) (s 
       let i = in-size part (4 * (programOf t .functions + n) + kindFor s) low e in
       sums-raised (given t choice known) (starts (programOf t) s) (startForm (programOf t) s) p
       (start s n (omega (arith, nodes-are t (known .of) ready)) b) refl n part part sum (omega (arith, few-nodes t (known .of) ready)) refl i i
-      (λ v a. omega (arith, size-in-sums s sizes from m v a (4 * (programOf t .functions + n) + kindFor s), ap (at sizes) e))
+      (λ v a. omega (arith, size-in-sums s sizes first m v a (4 * (programOf t .functions + n) + kindFor s), ap (at sizes) e))
+      (rw (← x-is, ← old-is) R)
+
+  pub step-raised : (i a b part x y old sum : ℕ) → Pass (given t choice known) (Summed s sizes first) (putSums s) (stepOn t known s) (stepOf t known s) i k clock m l then → i < known .of .edges → stepOn t known s i ≡ true → a ≡ from s (edgeFrom t (turn s (known .of .edges) i)) (edgeTo t (turn s (known .of .edges) i)) → b ≡ to s (edgeFrom t (turn s (known .of .edges) i)) (edgeTo t (turn s (known .of .edges) i)) → a < 512 → b < 512 → part ≡ 4 * (known .of .functions + b) + 3 → x ≡ offset s + b → y ≡ offset s + a → old ≡ at m b → sum ≡ cap (at m a + at sizes part) → {l′ : List ℕ} {u then′ : ℕ} → Raised l x old y part sum then l′ u then′ → Pass (given t choice known) (Summed s sizes first) (putSums s) (stepOn t known s) (stepOf t known s) (i + 1) k clock (set m b u) l′ then′
+  step-raised i a b part x y old sum p h o a-is b-is a-low b-low part-is x-is y-is old-is sum-is R =
+      let P = edgeFrom t (turn s (known .of .edges) i) in
+      let N = edgeTo t (turn s (known .of .edges) i) in
+      let f = functions-are t (known .of) ready in
+      let e : part ≡ 4 * (programOf t .functions + to s P N) + 3 = omega arith in
+      let low : part < 2304 = omega (arith, few-functions t (known .of) ready) in
+      sums-raised (given t choice known) (stepOn t known s) (stepOf t known s) p
+      (step-on s P N (edge-is t (known .of) ready (turn s (known .of .edges) i) (turn-low s (known .of .edges) i h)) o) refl b y part sum b-low (ap (along s) b-is)
+      (in-along s y a (from s P N) a-low y-is a-is)
+      (there (in-size part (4 * (programOf t .functions + to s P N) + 3) low e))
+      (λ v q. omega (arith, sum-in-sums s sizes first m v q (from s P N), size-in-sums s sizes first m v q (4 * (programOf t .functions + to s P N) + 3), ap (at m) a-is, ap (at sizes) e))
       (rw (← x-is, ← old-is) R)

@@ -15,7 +15,7 @@ use Rattle.sizes.specs.Rules.{total, post, pre, through, frameOf, ofNode
 use Rattle.sizes.specs.Sums.{Ahead, afterSum, beforeSum}
 use Rattle.sizes.specs.System.{Entry, size, along, nodeEntry, functionEntry, Rule, start, step-on, end, total-node, total-edge, target-of, formOf, gives, taken, Der, none, rule}
 use Rattle.sizes.specs.declared.sums.Sum.the-variants.{After, Before, Through}
-use Rattle.sizes.proofs.Targets.{Takes, of-call, of-unguarded, of-merged, takes-which}
+use Rattle.sizes.proofs.Taking.{Takes, of-call, of-unguarded, of-merged, takes-which}
 use Rattle.sizes.proofs.Ahead.{ahead-open, prepend, prepend-ahead, prepend-sum}
 
 module _ (g : Program) (set reached : ℕ → Bool) (choice : ℕ → ℕ) (w : WellFormed g) (r : Reached g set reached) (m : ℕ → ℕ) (meets : Meets g set choice m) where

@@ -3,10 +3,11 @@ pub mod Laws
 pub mod Values
 -- How the promises come about.
 mod Ahead
-mod Targets
+mod Taking
 mod Rises
 mod Passes
 mod Maps
 mod Along
+mod Raising
 mod Derived
 mod Solved

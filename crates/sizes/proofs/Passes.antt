@@ -283,8 +283,8 @@ pub record Going (S : Given) (of : Counts) (A : Values → Type 0) (put : List �
   pub can : Can S A k clock
   pub pass : Pass S A put on F i k clock m l then
 
-module _ (S : Given) (t : List ℕ) (of : Counts) {A : Values → Type 0} {put : List ℕ → Values → Values} {on : ℕ → Bool} {F : ℕ → Form} (count : ℕ) where
-  going : {i : ℕ} {k : List ℕ} {clock : ℕ} {m l : List ℕ} {then : ℕ} {stamps : List ℕ} → of .functions ≤ 64 → of .nodes ≤ 512 → i ≤ count → length stamps ≡ 3840 → Can S A k clock → Pass S A put on F i k clock m l then → Going S of A put on F count i k clock m l then stamps
+module _ {S : Given} {of : Counts} {A : Values → Type 0} {put : List ℕ → Values → Values} {on : ℕ → Bool} {F : ℕ → Form} where
+  going : {count i : ℕ} {k : List ℕ} {clock : ℕ} {m l : List ℕ} {then : ℕ} {stamps : List ℕ} → of .functions ≤ 64 → of .nodes ≤ 512 → i ≤ count → length stamps ≡ 3840 → Can S A k clock → Pass S A put on F i k clock m l then → Going S of A put on F count i k clock m l then stamps
   going a b h e c p =
       let q = p .pass (c .values) (c .fits) (c .state) in
       record {
@@ -298,10 +298,10 @@ module _ (S : Given) (t : List ℕ) (of : Counts) {A : Values → Type 0} {put :
         pass = p;
       }
 
-  pub going-first : {k : List ℕ} {clock : ℕ} {m : List ℕ} {stamps : List ℕ} → Ready t of → length stamps ≡ 3840 → Can S A k clock → Pass S A put on F 0 k clock m k clock → Going S of A put on F count 0 k clock m k clock stamps
-  going-first r e c p = going (few-functions t of r) (few-nodes t of r) (omega arith) e c p
+  pub going-first : (t : List ℕ) {count : ℕ} {k : List ℕ} {clock : ℕ} {m stamps : List ℕ} → Ready t of → length stamps ≡ 3840 → Can S A k clock → Pass S A put on F 0 k clock m k clock → Going S of A put on F count 0 k clock m k clock stamps
+  going-first t r e c p = going (few-functions t of r) (few-nodes t of r) (omega arith) e c p
 
-  module _ {i : ℕ} {k : List ℕ} {clock : ℕ} {m l : List ℕ} {then : ℕ} {stamps : List ℕ} (g : Going S of A put on F count i k clock m l then stamps) where
+  module _ {count i : ℕ} {k : List ℕ} {clock : ℕ} {m l : List ℕ} {then : ℕ} {stamps : List ℕ} (g : Going S of A put on F count i k clock m l then stamps) where
     pub going-on : {m′ l′ : List ℕ} {then′ : ℕ} {stamps′ : List ℕ} → i < count → length stamps′ ≡ length stamps → Pass S A put on F (i + 1) k clock m′ l′ then′ → Going S of A put on F count (i + 1) k clock m′ l′ then′ stamps′
     going-on h e p = going (g .functions-few) (g .nodes-few) (omega arith) (e ∙ g .stamps-long) (g .can) p
 

@@ -16,7 +16,7 @@ use Rattle.sizes.specs.Size.{cap, unbounded}
 use Rattle.sizes.specs.Rules.{total, post, pre, through, frameOf, sum, sumAfter, sumBefore, Meets, Least}
 use Rattle.sizes.specs.System.{Entry, size, along, functionEntry, nodeEntry, start, step-on, end, total-node, total-edge, target-of, taken, Der, none, rule, Solved}
 use Rattle.sizes.specs.declared.sums.Sum.the-variants.{After, Before, Through}
-use Rattle.sizes.proofs.Targets.{takes-call, takes-unguarded, takes-merged, taken-call, taken-spawn}
+use Rattle.sizes.proofs.Taking.{takes-call, takes-unguarded, takes-merged, taken-call, taken-spawn}
 use Rattle.sizes.specs.Sums.{Ahead, LargestAfter, LargestBefore}
 
 module _ (g : Program) (set reached : ℕ → Bool) (choice : ℕ → ℕ) (w : WellFormed g) (s : Synchronising g set) (r : Reached g set reached) (v : Entry → ℕ) (x : Solved g set reached choice v) where
@@ -87,13 +87,13 @@ module _ (g : Program) (set reached : ℕ → Bool) (choice : ℕ → ℕ) (w : 
         omega (arith, along-bounds f h q refl c, x .closed (end Through f h (first-reached f h q refl c)));
     calls = λ n h e k l.
         omega
-        (arith, x .closed (target-of n k h l (takes-call g choice n k e)), sized (functionEntry k (g .target n)), ap (λ (j : ℕ). v (functionEntry j (g .target n))) (taken-call g choice n k e));
+        (arith, x .closed (target-of n k h l (takes-call g choice n k e)), sized (functionEntry k (g .target n)), ap (λ (j : ℕ). v (functionEntry j (g .target n))) (taken-call g n k e));
     merged = λ n h e m k l.
         omega
-        (arith, x .closed (target-of n k h (omega arith) (takes-merged g choice n k e m l)), ap (λ (j : ℕ). v (functionEntry j (g .target n))) (taken-spawn g choice n k e));
+        (arith, x .closed (target-of n k h (omega arith) (takes-merged g choice n k e m l)), ap (λ (j : ℕ). v (functionEntry j (g .target n))) (taken-spawn g n k e));
     unguarded = λ n h e m k l.
         omega
-        (arith, x .closed (target-of n k h l (takes-unguarded g choice n k e m)), ap (λ (j : ℕ). v (functionEntry j (g .target n))) (taken-spawn g choice n k e));
+        (arith, x .closed (target-of n k h l (takes-unguarded g choice n k e m)), ap (λ (j : ℕ). v (functionEntry j (g .target n))) (taken-spawn g n k e));
   }
     where
       total-path : {a p n : ℕ} (q : Path g a p) (e : g .edge p n ≡ true) → Clear set q → cap (frameOf g (g .owner a) + v (nodeEntry g post a) + sumAfter (λ m. v (nodeEntry g through m)) q + v (nodeEntry g pre n)) ≤ v (functionEntry total (g .owner a))

@@ -33,6 +33,9 @@ value-size k =
     (λ (h : ltb k unbounded ≡ false). ap valueOf (sym (size-unbounded k (ltb-false k unbounded h))) ∙ omega (arith, ltb-false k unbounded h))
     (either-way (ltb k unbounded))
 
+pub value-is : (s : Size) (k : ℕ) → s ≡ sizeOf k → valueOf s ≡ cap k
+value-is s k e = ap valueOf e ∙ value-size k
+
 -- so two numbers with one capped value are written alike
 pub size-same : (j k : ℕ) → cap j ≡ cap k → sizeOf j ≡ sizeOf k
 size-same j k e =

@@ -2,6 +2,8 @@
 mod causes;
 pub mod size;
 mod sums;
+mod targets;
+mod totals;
 
 use table::Counts;
 

@@ -2,6 +2,7 @@
 use crate::Known;
 use crate::causes::raised;
 use crate::size::Size;
+use crate::totals::frame_size;
 use sync::words::has;
 use table::Counts;
 use table::program;
@@ -13,10 +14,10 @@ ghost use Rattle.table.specs.Answer.{Ready};
 ghost use Rattle.table.specs.Program.{programOf};
 ghost use Rattle.sync.specs.Words.{member};
 ghost use Rattle.sizes.specs.Size.{valueOf};
-ghost use Rattle.sizes.specs.System.{kindFor, starts, from, to, steps, startForm, stepForm};
+ghost use Rattle.sizes.specs.System.{kindFor, starts, from, to, steps, turn, ending, ends, due, startForm, endForm};
 ghost use Rattle.sizes.specs.Causes.{offset};
-ghost use Rattle.sizes.specs.Passes.{Summed, putSums, Pass, Can};
-ghost use Rattle.sizes.specs.Known.{given};
+ghost use Rattle.sizes.specs.Passes.{Summed, putSums, putSizes, Pass, Can};
+ghost use Rattle.sizes.specs.Known.{given, stepOn, stepOf};
 
 // Which sum of a node: the largest, over open paths, of
 // After: Post of the first node and Through of the others, on paths that end at the node with no member after the first;
@@ -102,4 +103,169 @@ pub(crate) fn start(
         }
     }
     sums
+}
+
+// Where a sum comes from, of the two ends of an edge from p to n.
+fn from_node(s: Sum, p: usize, n: usize) -> usize
+    requires { ⌜ (p < 512) × (n < 512) ⌝ }
+    ensures { λ r. ⌜ (r ≡ from s p n) × (r < 512) ⌝ }
+{
+    match s {
+        Sum::After => p,
+        Sum::Before => n,
+        Sum::Through => p,
+    }
+}
+
+// And where it goes.
+fn to_node(s: Sum, p: usize, n: usize) -> usize
+    requires { ⌜ (p < 512) × (n < 512) ⌝ }
+    ensures { λ r. ⌜ (r ≡ to s p n) × (r < 512) ⌝ }
+{
+    match s {
+        Sum::After => n,
+        Sum::Before => p,
+        Sum::Through => n,
+    }
+}
+
+// Whether no member of the set is in its way there.
+fn steps_on(known: Known, s: Sum, p: usize, n: usize) -> bool
+    ensures { λ r. ⌜ r ≡ steps (member (known .synchronising)) (member (known .reached)) s p n ⌝ }
+{
+    let set = known.synchronising;
+    let reached = known.reached;
+    match s {
+        Sum::After => !has(set, n),
+        Sum::Before => !has(set, p),
+        Sum::Through => !has(set, n) & has(reached, p),
+    }
+}
+
+// The i-th of k edges to go over: from the last where a sum runs against them.
+fn turned(s: Sum, k: usize, i: usize) -> usize
+    requires { ⌜ i < k ⌝ }
+    ensures { λ r. ⌜ (r ≡ turn s k i) × (r < k) ⌝ }
+{
+    match s {
+        Sum::After => i,
+        Sum::Before => k - (i + 1),
+        Sum::Through => i,
+    }
+}
+
+// Raises the sums of nodes along the edges.
+pub(crate) fn step(
+    t: &[u8],
+    choice: &[u8],
+    known: Known,
+    s: Sum,
+    sizes: [Size; 2304],
+    from: [Size; 512],
+    causes: &mut [u16],
+    stamps: &mut [u32],
+    clock: &mut u32,
+) -> [Size; 512]
+    requires { ⌜ Ready (now t) (known .of) × (length (now stamps) ≡ 3840) ⌝ }
+    requires { ⌜ Can (given (now t) (now choice) known) (Summed s (map valueOf sizes) (map valueOf from)) (now causes) (now clock) ⌝ }
+    ensures { λ r. ⌜ Pass (given (now (t .entry)) (now (choice .entry)) known) (Summed s (map valueOf sizes) (map valueOf from)) (putSums s) (stepOn (now (t .entry)) known s) (stepOf (now (t .entry)) known s) (known .of .edges) (now (causes .entry)) (now (clock .entry)) (map valueOf r) (now (causes .exit)) (now (clock .exit)) ⌝ }
+{
+    let mut sums = from;
+    let mut i: usize = 0;
+    while i < known.of.edges {
+        let of = known.of;
+        let e = turned(s, of.edges, i);
+        let p = program::edge_from(t, of, e);
+        let n = program::edge_to(t, of, e);
+        i += 1;
+        if steps_on(known, s, p, n) {
+            let a = from_node(s, p, n);
+            let b = to_node(s, p, n);
+            let part = 4 * (of.functions + b) + 3;
+            let sum = sums[a].add(sizes[part]);
+            let new = raised(
+                causes,
+                stamps,
+                clock,
+                number(s, b),
+                sums[b],
+                number(s, a),
+                part,
+                sum,
+            );
+            sums[b] = new;
+        }
+    }
+    sums
+}
+
+// The node of function f at which a sum is done.
+fn ending_of(t: &[u8], of: Counts, s: Sum, f: usize) -> usize
+    requires { ⌜ Ready (now t) of × (f < of .functions) ⌝ }
+    ensures { λ r. ⌜ (r ≡ ending (programOf (now (t .entry))) s f) × (r < of .nodes) ⌝ }
+{
+    match s {
+        Sum::After => program::exit(t, of, f),
+        Sum::Before => program::first(t, of, f),
+        Sum::Through => program::exit(t, of, f),
+    }
+}
+
+// Whether it gets there.
+fn ends_at(t: &[u8], known: Known, s: Sum, f: usize) -> bool
+    requires { ⌜ Ready (now t) (known .of) × (f < known .of .functions) ⌝ }
+    ensures { λ r. ⌜ r ≡ ends (programOf (now (t .entry))) (member (known .reached)) s f ⌝ }
+{
+    let reached = known.reached;
+    match s {
+        Sum::After => true,
+        Sum::Before => true,
+        Sum::Through => has(reached, program::exit(t, known.of, f)),
+    }
+}
+
+// What is due there besides.
+fn due_of(t: &[u8], of: Counts, s: Sum, f: usize) -> Size
+    requires { ⌜ Ready (now t) of × (f < of .functions) ⌝ }
+    ensures { λ r. ⌜ valueOf r ≡ due (programOf (now (t .entry))) s f ⌝ }
+{
+    match s {
+        Sum::After => Size::ZERO,
+        Sum::Before => frame_size(t, of, f),
+        Sum::Through => Size::ZERO,
+    }
+}
+
+// Raises the sizes of functions to the sums that are done.
+pub(crate) fn end(
+    t: &[u8],
+    choice: &[u8],
+    known: Known,
+    s: Sum,
+    sums: [Size; 512],
+    from: [Size; 2304],
+    causes: &mut [u16],
+    stamps: &mut [u32],
+    clock: &mut u32,
+) -> [Size; 2304]
+    requires { ⌜ Ready (now t) (known .of) × (length (now stamps) ≡ 3840) ⌝ }
+    requires { ⌜ Can (given (now t) (now choice) known) (Summed s (map valueOf from) (map valueOf sums)) (now causes) (now clock) ⌝ }
+    ensures { λ r. ⌜ Pass (given (now (t .entry)) (now (choice .entry)) known) (Summed s (map valueOf from) (map valueOf sums)) putSizes (ends (programOf (now (t .entry))) (member (known .reached)) s) (endForm (programOf (now (t .entry))) s) (known .of .functions) (now (causes .entry)) (now (clock .entry)) (map valueOf r) (now (causes .exit)) (now (clock .exit)) ⌝ }
+{
+    let mut sizes = from;
+    let mut f: usize = 0;
+    while f < known.of.functions {
+        let of = known.of;
+        let at = f;
+        f += 1;
+        if ends_at(t, known, s, at) {
+            let x = 4 * at + kind(s);
+            let n = ending_of(t, of, s, at);
+            let part = number(s, n);
+            let sum = due_of(t, of, s, at).add(sums[n]);
+            let new = raised(causes, stamps, clock, x, sizes[x], part, part, sum);
+            sizes[x] = new;
+        }
+    }
+    sizes
 }

@@ -29,7 +29,7 @@ loop-holds : tie.Need-loop-holds Inv-loop μ-loop
 loop-holds c =
     let a = c .before .before .before .before .args in
     let p = c .before .before .before .before .pre in
-    going-first (given (a .t .now) (a .choice .now) (a .known)) (a .t .now) (a .known .of) (a .known .of .nodes) (p .0 .0) (p .0 .1) (p .1) (sums-none (given (a .t .now) (a .choice .now) (a .known)) (starts (programOf (a .t .now)) (a .s)) (startForm (programOf (a .t .now)) (a .s)))
+    going-first (a .t .now) (p .0 .0) (p .0 .1) (p .1) (sums-none _ _ _)
 
 add-n : tie.Need-add-n Inv-loop μ-loop
 add-n c = search needs
@@ -85,16 +85,15 @@ loop-again c =
     let p =
     start-raised (a .t .now) (a .choice .now) (a .known) (c .before .before .before .before .before .before .before .before .before .before .before .before .before .before .before .before .before .before .before .before .before .before .before .pre .0 .0) (a .s) (L .n) part (c .before .before .before .before .before .before .number .result) (valueOf (getD (L .sums) (L .n) (Bytes 0))) (valueOf (getD (a .t5) part (Bytes 0))) (L .inv .pass) (c .before .before .before .before .before .before .before .before .before .before .before .before .before .before .before .before .if1 .taken) (sym (c .before .before .before .before .before .before .before .before .before .before .before .before .before .before .starts-at .ensures) ∙ c .before .before .before .before .before .before .before .before .before .before .before .before .before .if2 .taken)
     (omega (arith, c .before .before .before .before .before .before .before .before .before .before .before .kind .ensures .0)) (c .before .before .before .before .before .before .number .ensures .0) (map-at (L .sums) (L .n)) (map-at (a .t5) part) (value-le (getD (a .t5) part (Bytes 0))) (R .ensures) in
-    rw (map-set (L .sums) (L .n) (R .result)) (going-on (given (a .t .now) (a .choice .now) (a .known)) (a .t .now) (a .known .of) (a .known .of .nodes) (L .inv) (c .before .before .before .before .before .before .before .before .before .before .before .before .before .before .before .before .if1 .taken) (R .kept .1 .0) p)
+    rw (map-set (L .sums) (L .n) (R .result)) (going-on (L .inv) (c .before .before .before .before .before .before .before .before .before .before .before .before .before .before .before .before .if1 .taken) (R .kept .1 .0) p)
 
 loop-less-2 : tie.Need-loop-less-2 Inv-loop μ-loop
 loop-less-2 c = search needs
 
 loop-again-2 : tie.Need-loop-again-2 Inv-loop μ-loop
 loop-again-2 c =
-    let a = c .before .before .before .before .before .before .before .before .before .before .args in
     let L = c .before .before .before .before .before .loop in
-    going-off (given (a .t .now) (a .choice .now) (a .known)) (a .t .now) (a .known .of) (a .known .of .nodes) (L .inv) (c .before .before .before .if1 .taken) (sym (c .before .starts-at .ensures) ∙ c .if2 .left)
+    going-off (L .inv) (c .before .before .before .if1 .taken) (sym (c .before .starts-at .ensures) ∙ c .if2 .left)
 
 same-length : tie.Need-same-length Inv-loop μ-loop
 same-length c = search needs
@@ -103,9 +102,7 @@ same-length-2 : tie.Need-same-length-2 Inv-loop μ-loop
 same-length-2 c = search needs
 
 returns : tie.Need-returns Inv-loop μ-loop
-returns c =
-    let a = c .before .before .before .before .before .before .before .args in
-    going-last (given (a .t .now) (a .choice .now) (a .known)) (a .t .now) (a .known .of) (a .known .of .nodes) (c .before .before .loop .inv) (c .if1 .left)
+returns c = going-last (c .before .before .loop .inv) (c .if1 .left)
 
 pub start-spec : {M : Type 1} → statement M
 start-spec =

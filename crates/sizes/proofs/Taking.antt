@@ -19,15 +19,19 @@ pub data Takes (g : Program) (choice : ℕ → ℕ) (n k : ℕ) : Type 0 where
   of-unguarded : g .sort n ≡ spawn → LeavesUnguarded choice n → taken g n k ≡ total → Takes g choice n k
   of-merged : g .sort n ≡ spawn → Merges choice n → k ≤ post → taken g n k ≡ total → Takes g choice n k
 
-module _ (g : Program) (choice : ℕ → ℕ) (n k : ℕ) where
+module _ (g : Program) (n k : ℕ) where
   pub taken-call : g .sort n ≡ call → taken g n k ≡ k
   unfolding taken
   taken-call s = rw s refl
 
-  pub taken-spawn : g .sort n ≡ spawn → taken g n k ≡ total
+  pub taken-other : (g .sort n ≡ call → ⊥) → taken g n k ≡ total
   unfolding taken
-  taken-spawn s = rw s refl
+  taken-other s = rw (ne-eqb (g .sort n) call s) refl
 
+  pub taken-spawn : g .sort n ≡ spawn → taken g n k ≡ total
+  taken-spawn s = taken-other (λ e. absurd (omega arith))
+
+module _ (g : Program) (choice : ℕ → ℕ) (n k : ℕ) where
   pub takes-call : g .sort n ≡ call → takes g choice n k ≡ true
   unfolding takes
   takes-call s = rw s refl
@@ -43,11 +47,11 @@ module _ (g : Program) (choice : ℕ → ℕ) (n k : ℕ) where
   of-spawn : g .sort n ≡ spawn → (leb unguarded (choice n) || (leb guarded (choice n) && leb k post)) ≡ true → Takes g choice n k
   of-spawn s b =
       ⊎-elim
-      (λ (h : leb unguarded (choice n) ≡ true). of-unguarded s (leb-true _ _ h) (taken-spawn s))
+      (λ (h : leb unguarded (choice n) ≡ true). of-unguarded s (leb-true _ _ h) (taken-spawn g n k s))
       (λ (h : leb unguarded (choice n) ≡ false).
       let m = or-true-right (leb unguarded (choice n)) (leb guarded (choice n) && leb k post) b h in
       let c = leb guarded (choice n) in
-      of-merged s (leb-true guarded (choice n) (and-true-left c (leb k post) m)) (leb-true k post (and-true-right c (leb k post) m)) (taken-spawn s))
+      of-merged s (leb-true guarded (choice n) (and-true-left c (leb k post) m)) (leb-true k post (and-true-right c (leb k post) m)) (taken-spawn g n k s))
       (either-way (leb unguarded (choice n)))
 
   pub takes-which : takes g choice n k ≡ true → Takes g choice n k
@@ -55,7 +59,7 @@ module _ (g : Program) (choice : ℕ → ℕ) (n k : ℕ) where
   takes-which b =
       let rest = leb unguarded (choice n) || (leb guarded (choice n) && leb k post) in
       ⊎-elim
-      (λ (h : eqb (g .sort n) call ≡ true). let s = eqb-true _ _ h in of-call s (taken-call s))
+      (λ (h : eqb (g .sort n) call ≡ true). let s = eqb-true _ _ h in of-call s (taken-call g n k s))
       (λ (h : eqb (g .sort n) call ≡ false).
       let m = or-true-right (eqb (g .sort n) call) (eqb (g .sort n) spawn && rest) b h in
       of-spawn (eqb-true _ _ (and-true-left (eqb (g .sort n) spawn) rest m)) (and-true-right (eqb (g .sort n) spawn) rest m))
