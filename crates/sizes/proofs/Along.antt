@@ -12,7 +12,7 @@ use Rattle.table.proofs.Ready.{few-functions, few-nodes, functions-are, nodes-a
 use Rattle.sizes.specs.Size.{unbounded, cap}
 use Rattle.sizes.specs.System.{size, along, kindFor, starts, from, to, turn, start, step-on, startForm}
 use Rattle.sizes.specs.Causes.{offset, at, Raised}
-use Rattle.sizes.specs.Passes.{Values, Summed, putSums, valueAt, Pass}
+use Rattle.sizes.specs.Passes.{Values, Summed, putSums, valueAt, Held, Pass}
 use Rattle.sizes.specs.Known.{given, stepOn, stepOf}
 use Rattle.sizes.specs.declared.Known.{Known}
 use Rattle.sizes.specs.declared.sums.Sum.{Sum}
@@ -31,7 +31,7 @@ turn-low Before k i h = omega arith
 turn-low Through k i h = h
 
 module _ (t choice : List ℕ) (known : Known) (ready : Ready t (known .of)) (s : Sum) {sizes first k : List ℕ} {clock : ℕ} {m l : List ℕ} {then : ℕ} where
-  pub start-raised : (n part x old sum : ℕ) → Pass (given t choice known) (Summed s sizes first) (putSums s) (starts (programOf t) s) (startForm (programOf t) s) n k clock m l then → n < known .of .nodes → starts (programOf t) s n ≡ true → part ≡ 4 * (known .of .functions + n) + kindFor s → x ≡ offset s + n → old ≡ at m n → sum ≡ at sizes part → sum ≤ unbounded → {l′ : List ℕ} {u then′ : ℕ} → Raised l x old part part sum then l′ u then′ → Pass (given t choice known) (Summed s sizes first) (putSums s) (starts (programOf t) s) (startForm (programOf t) s) (n + 1) k clock (set m n u) l′ then′
+  pub start-raised : (n part x old sum : ℕ) → Pass (given t choice known) (Summed s sizes first) (putSums s) (Held (starts (programOf t) s) (startForm (programOf t) s) n) k clock m l then → n < known .of .nodes → starts (programOf t) s n ≡ true → part ≡ 4 * (known .of .functions + n) + kindFor s → x ≡ offset s + n → old ≡ at m n → sum ≡ at sizes part → sum ≤ unbounded → {l′ : List ℕ} {u then′ : ℕ} → Raised l x old part part sum then l′ u then′ → Pass (given t choice known) (Summed s sizes first) (putSums s) (Held (starts (programOf t) s) (startForm (programOf t) s) (n + 1)) k clock (set m n u) l′ then′
   start-raised n part x old sum p h b part-is x-is old-is sum-is le R =
       let f = functions-are t (known .of) ready in
       let e : part ≡ 4 * (programOf t .functions + n) + kindFor s = omega arith in
@@ -42,7 +42,7 @@ module _ (t choice : List ℕ) (known : Known) (ready : Ready t (known .of)) (s 
       (λ v a. omega (arith, size-in-sums s sizes first m v a (4 * (programOf t .functions + n) + kindFor s), ap (at sizes) e))
       (rw (← x-is, ← old-is) R)
 
-  pub step-raised : (i a b part x y old sum : ℕ) → Pass (given t choice known) (Summed s sizes first) (putSums s) (stepOn t known s) (stepOf t known s) i k clock m l then → i < known .of .edges → stepOn t known s i ≡ true → a ≡ from s (edgeFrom t (turn s (known .of .edges) i)) (edgeTo t (turn s (known .of .edges) i)) → b ≡ to s (edgeFrom t (turn s (known .of .edges) i)) (edgeTo t (turn s (known .of .edges) i)) → a < 512 → b < 512 → part ≡ 4 * (known .of .functions + b) + 3 → x ≡ offset s + b → y ≡ offset s + a → old ≡ at m b → sum ≡ cap (at m a + at sizes part) → {l′ : List ℕ} {u then′ : ℕ} → Raised l x old y part sum then l′ u then′ → Pass (given t choice known) (Summed s sizes first) (putSums s) (stepOn t known s) (stepOf t known s) (i + 1) k clock (set m b u) l′ then′
+  pub step-raised : (i a b part x y old sum : ℕ) → Pass (given t choice known) (Summed s sizes first) (putSums s) (Held (stepOn t known s) (stepOf t known s) i) k clock m l then → i < known .of .edges → stepOn t known s i ≡ true → a ≡ from s (edgeFrom t (turn s (known .of .edges) i)) (edgeTo t (turn s (known .of .edges) i)) → b ≡ to s (edgeFrom t (turn s (known .of .edges) i)) (edgeTo t (turn s (known .of .edges) i)) → a < 512 → b < 512 → part ≡ 4 * (known .of .functions + b) + 3 → x ≡ offset s + b → y ≡ offset s + a → old ≡ at m b → sum ≡ cap (at m a + at sizes part) → {l′ : List ℕ} {u then′ : ℕ} → Raised l x old y part sum then l′ u then′ → Pass (given t choice known) (Summed s sizes first) (putSums s) (Held (stepOn t known s) (stepOf t known s) (i + 1)) k clock (set m b u) l′ then′
   step-raised i a b part x y old sum p h o a-is b-is a-low b-low part-is x-is y-is old-is sum-is R =
       let P = edgeFrom t (turn s (known .of .edges) i) in
       let N = edgeTo t (turn s (known .of .edges) i) in

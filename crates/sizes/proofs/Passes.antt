@@ -206,49 +206,49 @@ module _ (s : Sum) (sizes from m : List ℕ) (v : Values) (a : Summed s sizes fr
   sum-in-sizes n = ap (λ (l : List ℕ). at l n) (sums-kept s m v ∙ a .sums-are)
 
 module _ (S : Given) (on : ℕ → Bool) (F : ℕ → Form) where
-  held-none : (v : Entry → ℕ) → Held on F 0 v
+  held-none : (v : Values) → Held on F 0 v
   held-none v = record { held = λ j h. absurd (omega arith) }
 
-  held-more : {i : ℕ} (v : Entry → ℕ) → (on i ≡ true → gives v (F i) ≤ v (F i .head)) → Held on F i v → Held on F (i + 1) v
+  held-more : {i : ℕ} (v : Values) → (on i ≡ true → gives (valueAt v) (F i) ≤ valueAt v (F i .head)) → Held on F i v → Held on F (i + 1) v
   held-more {i} v f d = record { held = λ j h. go j h (ℕ-discrete j i) }
     where
-      go : (j : ℕ) → j < i + 1 → Dec (j ≡ i) → on j ≡ true → gives v (F j) ≤ v (F j .head)
+      go : (j : ℕ) → j < i + 1 → Dec (j ≡ i) → on j ≡ true → gives (valueAt v) (F j) ≤ valueAt v (F j .head)
       go j h (yes e) = rw e f
       go j h (no e) = d .held j (omega (arith, e))
 
-  passed-none : {v w : Values} {k : List ℕ} {clock : ℕ} → w ≡ v → State S v k → Passed S (Held on F 0 (valueAt v)) v k clock w k clock
-  passed-none {v} e st = record { state = rw e st; ticks = rw e (omega arith); later = omega arith; quiet = λ q. (e, held-none (valueAt v)) }
+  passed-none : {v w : Values} {k : List ℕ} {clock : ℕ} → w ≡ v → State S v k → Passed S (Held on F 0 v) v k clock w k clock
+  passed-none {v} e st = record { state = rw e st; ticks = rw e (omega arith); later = omega arith; quiet = λ q. (e, held-none v) }
 
-  pub sums-none : {s : Sum} {sizes m k : List ℕ} {clock : ℕ} → Pass S (Summed s sizes m) (putSums s) on F 0 k clock m k clock
+  pub sums-none : {s : Sum} {sizes m k : List ℕ} {clock : ℕ} → Pass S (Summed s sizes m) (putSums s) (Held on F 0) k clock m k clock
   sums-none {s} {m = m} = record { pass = λ v a st. passed-none (sums-same s m v (a .sums-are)) st }
 
-  pub sizes-none : {A : Values → Type 0} {m k : List ℕ} {clock : ℕ} → ((v : Values) → A v → v .sizes ≡ m) → Pass S A putSizes on F 0 k clock m k clock
+  pub sizes-none : {A : Values → Type 0} {m k : List ℕ} {clock : ℕ} → ((v : Values) → A v → v .sizes ≡ m) → Pass S A putSizes (Held on F 0) k clock m k clock
   sizes-none f = record { pass = λ v a st. passed-none (ap (λ (l : List ℕ). putSizes l v) (sym (f v a))) st }
 
   module _ {A : Values → Type 0} {put : List ℕ → Values → Values} {i : ℕ} {k : List ℕ} {clock : ℕ} {m l : List ℕ} {then : ℕ} where
     -- a rule that is off
-    pub pass-off : Pass S A put on F i k clock m l then → on i ≡ false → Pass S A put on F (i + 1) k clock m l then
+    pub pass-off : Pass S A put (Held on F i) k clock m l then → on i ≡ false → Pass S A put (Held on F (i + 1)) k clock m l then
     pass-off p o = record { pass = λ v a st. more v (p .pass v a st) }
       where
-        more : (v : Values) → Passed S (Held on F i (valueAt v)) v k clock (put m v) l then → Passed S (Held on F (i + 1) (valueAt v)) v k clock (put m v) l then
+        more : (v : Values) → Passed S (Held on F i v) v k clock (put m v) l then → Passed S (Held on F (i + 1) v) v k clock (put m v) l then
         more v q = record {
           state = q .state;
           ticks = q .ticks;
           later = q .later;
-          quiet = λ e. (q .quiet e .0, held-more (valueAt v) (λ h. not-both (on i) h o) (q .quiet e .1));
+          quiet = λ e. (q .quiet e .0, held-more v (λ h. not-both (on i) h o) (q .quiet e .1));
         }
 
-    pass-raised : Pass S A put on F i k clock m l then → (r : RuleOf S) → formOf r ≡ F i → (x y z old sum : ℕ) → x < entryCount → entryAt x ≡ F i .head → In (entryAt y) (F i .body) → In (entryAt z) (F i .body) → {m′ l′ : List ℕ} {t then′ : ℕ} → ((v : Values) → A v → State S (put m v) l → (valueAt (put m v) (entryAt x) ≡ old) × (gives (valueAt (put m v)) (F i) ≡ sum) × Changed (put m v) x t (put m′ v)) → Raised l x old y z sum then l′ t then′ → Pass S A put on F (i + 1) k clock m′ l′ then′
+    pass-raised : Pass S A put (Held on F i) k clock m l then → (r : RuleOf S) → formOf r ≡ F i → (x y z old sum : ℕ) → x < entryCount → entryAt x ≡ F i .head → In (entryAt y) (F i .body) → In (entryAt z) (F i .body) → {m′ l′ : List ℕ} {t then′ : ℕ} → ((v : Values) → A v → State S (put m v) l → (valueAt (put m v) (entryAt x) ≡ old) × (gives (valueAt (put m v)) (F i) ≡ sum) × Changed (put m v) x t (put m′ v)) → Raised l x old y z sum then l′ t then′ → Pass S A put (Held on F (i + 1)) k clock m′ l′ then′
     pass-raised p r e x y z old sum h here-is y-in z-in {m′} {l′} {t} {then′} facts R = record { pass = λ v a st. one v a (p .pass v a st) }
       where
-        one : (v : Values) → A v → Passed S (Held on F i (valueAt v)) v k clock (put m v) l then → Passed S (Held on F (i + 1) (valueAt v)) v k clock (put m′ v) l′ then′
+        one : (v : Values) → A v → Passed S (Held on F i v) v k clock (put m v) l then → Passed S (Held on F (i + 1) v) v k clock (put m′ v) l′ then′
         one v a q =
             let f = facts v a (q .state) in
             passed-raised S q r x y z old sum h (here-is ∙ ap (λ (g : Form). g .head) (sym e)) (rw e y-in) (rw e z-in) (f .0) (rw e (f .1))
-            (λ d g. held-more (valueAt v) (λ b. rw e at g) d) (f .2) R
+            (λ d g. held-more v (λ b. rw e at g) d) (f .2) R
 
   -- a rule that raises the sum of node n
-  pub sums-raised : {s : Sum} {sizes from : List ℕ} {i : ℕ} {k : List ℕ} {clock : ℕ} {m l : List ℕ} {then : ℕ} → Pass S (Summed s sizes from) (putSums s) on F i k clock m l then → (r : RuleOf S) → formOf r ≡ F i → (n y z sum : ℕ) → n < 512 → along s n ≡ F i .head → In (entryAt y) (F i .body) → In (entryAt z) (F i .body) → ((v : Values) → Summed s sizes from v → gives (valueAt (putSums s m v)) (F i) ≡ sum) → {l′ : List ℕ} {t then′ : ℕ} → Raised l (offset s + n) (at m n) y z sum then l′ t then′ → Pass S (Summed s sizes from) (putSums s) on F (i + 1) k clock (set m n t) l′ then′
+  pub sums-raised : {s : Sum} {sizes from : List ℕ} {i : ℕ} {k : List ℕ} {clock : ℕ} {m l : List ℕ} {then : ℕ} → Pass S (Summed s sizes from) (putSums s) (Held on F i) k clock m l then → (r : RuleOf S) → formOf r ≡ F i → (n y z sum : ℕ) → n < 512 → along s n ≡ F i .head → In (entryAt y) (F i .body) → In (entryAt z) (F i .body) → ((v : Values) → Summed s sizes from v → gives (valueAt (putSums s m v)) (F i) ≡ sum) → {l′ : List ℕ} {t then′ : ℕ} → Raised l (offset s + n) (at m n) y z sum then l′ t then′ → Pass S (Summed s sizes from) (putSums s) (Held on F (i + 1)) k clock (set m n t) l′ then′
   sums-raised {s} {sizes} {from} {i = i} {m = m} {l = l} p r e n y z sum h here-is y-in z-in value {t = t} R =
       pass-raised p r e (offset s + n) y z (at m n) sum (low s) (entry-along s n h ∙ here-is) y-in z-in facts R
     where
@@ -263,7 +263,7 @@ module _ (S : Given) (on : ℕ → Bool) (F : ℕ → Form) where
           (ap (valueAt (putSums s m v)) (entry-along s n h) ∙ sum-in-sums s sizes from m v a n, value v a, change-sums m n t (omega arith) s v long)
 
   -- a rule that raises size x
-  pub sizes-raised : {A : Values → Type 0} {i : ℕ} {k : List ℕ} {clock : ℕ} {m l : List ℕ} {then : ℕ} → Pass S A putSizes on F i k clock m l then → (r : RuleOf S) → formOf r ≡ F i → (x y z sum : ℕ) → x < 2304 → size x ≡ F i .head → In (entryAt y) (F i .body) → In (entryAt z) (F i .body) → ((v : Values) → A v → gives (valueAt (putSizes m v)) (F i) ≡ sum) → {l′ : List ℕ} {t then′ : ℕ} → Raised l x (at m x) y z sum then l′ t then′ → Pass S A putSizes on F (i + 1) k clock (set m x t) l′ then′
+  pub sizes-raised : {A : Values → Type 0} {i : ℕ} {k : List ℕ} {clock : ℕ} {m l : List ℕ} {then : ℕ} → Pass S A putSizes (Held on F i) k clock m l then → (r : RuleOf S) → formOf r ≡ F i → (x y z sum : ℕ) → x < 2304 → size x ≡ F i .head → In (entryAt y) (F i .body) → In (entryAt z) (F i .body) → ((v : Values) → A v → gives (valueAt (putSizes m v)) (F i) ≡ sum) → {l′ : List ℕ} {t then′ : ℕ} → Raised l x (at m x) y z sum then l′ t then′ → Pass S A putSizes (Held on F (i + 1)) k clock (set m x t) l′ then′
   sizes-raised {A} {i = i} {m = m} {l = l} p r e x y z sum h here-is y-in z-in value {t = t} R =
       pass-raised p r e x y z (at m x) sum (omega arith) (entry-size x h ∙ here-is) y-in z-in facts R
     where
@@ -281,10 +281,10 @@ pub record Going (S : Given) (of : Counts) (A : Values → Type 0) (put : List �
   pub stamps-long : length stamps ≡ 3840
   pub bound : then < 1000000000
   pub can : Can S A k clock
-  pub pass : Pass S A put on F i k clock m l then
+  pub pass : Pass S A put (Held on F i) k clock m l then
 
 module _ {S : Given} {of : Counts} {A : Values → Type 0} {put : List ℕ → Values → Values} {on : ℕ → Bool} {F : ℕ → Form} where
-  going : {count i : ℕ} {k : List ℕ} {clock : ℕ} {m l : List ℕ} {then : ℕ} {stamps : List ℕ} → of .functions ≤ 64 → of .nodes ≤ 512 → i ≤ count → length stamps ≡ 3840 → Can S A k clock → Pass S A put on F i k clock m l then → Going S of A put on F count i k clock m l then stamps
+  going : {count i : ℕ} {k : List ℕ} {clock : ℕ} {m l : List ℕ} {then : ℕ} {stamps : List ℕ} → of .functions ≤ 64 → of .nodes ≤ 512 → i ≤ count → length stamps ≡ 3840 → Can S A k clock → Pass S A put (Held on F i) k clock m l then → Going S of A put on F count i k clock m l then stamps
   going a b h e c p =
       let q = p .pass (c .values) (c .fits) (c .state) in
       record {
@@ -298,17 +298,17 @@ module _ {S : Given} {of : Counts} {A : Values → Type 0} {put : List ℕ → V
         pass = p;
       }
 
-  pub going-first : (t : List ℕ) {count : ℕ} {k : List ℕ} {clock : ℕ} {m stamps : List ℕ} → Ready t of → length stamps ≡ 3840 → Can S A k clock → Pass S A put on F 0 k clock m k clock → Going S of A put on F count 0 k clock m k clock stamps
+  pub going-first : (t : List ℕ) {count : ℕ} {k : List ℕ} {clock : ℕ} {m stamps : List ℕ} → Ready t of → length stamps ≡ 3840 → Can S A k clock → Pass S A put (Held on F 0) k clock m k clock → Going S of A put on F count 0 k clock m k clock stamps
   going-first t r e c p = going (few-functions t of r) (few-nodes t of r) (omega arith) e c p
 
   module _ {count i : ℕ} {k : List ℕ} {clock : ℕ} {m l : List ℕ} {then : ℕ} {stamps : List ℕ} (g : Going S of A put on F count i k clock m l then stamps) where
-    pub going-on : {m′ l′ : List ℕ} {then′ : ℕ} {stamps′ : List ℕ} → i < count → length stamps′ ≡ length stamps → Pass S A put on F (i + 1) k clock m′ l′ then′ → Going S of A put on F count (i + 1) k clock m′ l′ then′ stamps′
+    pub going-on : {m′ l′ : List ℕ} {then′ : ℕ} {stamps′ : List ℕ} → i < count → length stamps′ ≡ length stamps → Pass S A put (Held on F (i + 1)) k clock m′ l′ then′ → Going S of A put on F count (i + 1) k clock m′ l′ then′ stamps′
     going-on h e p = going (g .functions-few) (g .nodes-few) (omega arith) (e ∙ g .stamps-long) (g .can) p
 
     pub going-off : i < count → on i ≡ false → Going S of A put on F count (i + 1) k clock m l then stamps
     going-off h o = going-on h refl (pass-off S on F (g .pass) o)
 
-    pub going-last : count ≤ i → Pass S A put on F count k clock m l then
+    pub going-last : count ≤ i → Pass S A put (Held on F count) k clock m l then
     going-last h = let e : i ≡ count = omega (arith, g .below) in rw e at (g .pass)
 
 -- ---- where the entries of a body stand

@@ -14,7 +14,7 @@ use Rattle.sizes.specs.Size.{unbounded, cap}
 use Rattle.sizes.specs.Rules.{frameOf}
 use Rattle.sizes.specs.System.{size, along, kindFor, ending, ends, due, taken, end, total-node, total-edge, target-of, endForm, totalNodeForm}
 use Rattle.sizes.specs.Causes.{offset, at, Raised}
-use Rattle.sizes.specs.Passes.{Values, Sized, Summed, putSizes, valueAt, Pass}
+use Rattle.sizes.specs.Passes.{Values, Sized, Summed, putSizes, valueAt, Held, Pass}
 use Rattle.sizes.specs.Known.{given, totalEdgeOf, targetOn, targetAt}
 use Rattle.sizes.specs.declared.Known.{Known}
 use Rattle.sizes.specs.declared.sums.Sum.{Sum}
@@ -24,7 +24,7 @@ use Rattle.sizes.proofs.Along.{kind-le}
 use Rattle.sizes.proofs.Passes.{sizes-raised, in-size, in-along, sum-in-sizes}
 
 module _ (t choice : List ℕ) (known : Known) (ready : Ready t (known .of)) {sizes k : List ℕ} {clock : ℕ} {m l : List ℕ} {then : ℕ} where
-  pub end-raised : (s : Sum) {sums : List ℕ} (f n x part old sum : ℕ) → Pass (given t choice known) (Summed s sizes sums) putSizes (ends (programOf t) (member (known .reached)) s) (endForm (programOf t) s) f k clock m l then → f < known .of .functions → ends (programOf t) (member (known .reached)) s f ≡ true → n ≡ ending (programOf t) s f → n < known .of .nodes → x ≡ 4 * f + kindFor s → part ≡ offset s + n → old ≡ at m x → sum ≡ cap (due (programOf t) s f + at sums n) → {l′ : List ℕ} {u then′ : ℕ} → Raised l x old part part sum then l′ u then′ → Pass (given t choice known) (Summed s sizes sums) putSizes (ends (programOf t) (member (known .reached)) s) (endForm (programOf t) s) (f + 1) k clock (set m x u) l′ then′
+  pub end-raised : (s : Sum) {sums : List ℕ} (f n x part old sum : ℕ) → Pass (given t choice known) (Summed s sizes sums) putSizes (Held (ends (programOf t) (member (known .reached)) s) (endForm (programOf t) s) f) k clock m l then → f < known .of .functions → ends (programOf t) (member (known .reached)) s f ≡ true → n ≡ ending (programOf t) s f → n < known .of .nodes → x ≡ 4 * f + kindFor s → part ≡ offset s + n → old ≡ at m x → sum ≡ cap (due (programOf t) s f + at sums n) → {l′ : List ℕ} {u then′ : ℕ} → Raised l x old part part sum then l′ u then′ → Pass (given t choice known) (Summed s sizes sums) putSizes (Held (ends (programOf t) (member (known .reached)) s) (endForm (programOf t) s) (f + 1)) k clock (set m x u) l′ then′
   end-raised s {sums} f n x part old sum p h o n-is n-low x-is part-is old-is sum-is R =
       let low : n < 512 = omega (arith, few-nodes t (known .of) ready) in
       let i = in-along s part n (ending (programOf t) s f) low part-is n-is in
@@ -33,7 +33,7 @@ module _ (t choice : List ℕ) (known : Known) (ready : Ready t (known .of)) {si
       (λ v a. omega (arith, sum-in-sizes s sizes sums m v a (ending (programOf t) s f), ap (at sums) n-is))
       (rw (← old-is) R)
 
-  pub total-node-raised : (n f x part old sum : ℕ) → Pass (given t choice known) (Sized sizes) putSizes (λ j. true) (totalNodeForm (programOf t)) n k clock m l then → n < known .of .nodes → f ≡ programOf t .owner n → f < known .of .functions → x ≡ 4 * f → part ≡ 4 * (known .of .functions + n) → old ≡ at m x → sum ≡ cap (frameOf (programOf t) f + at m part) → {l′ : List ℕ} {u then′ : ℕ} → Raised l x old part part sum then l′ u then′ → Pass (given t choice known) (Sized sizes) putSizes (λ j. true) (totalNodeForm (programOf t)) (n + 1) k clock (set m x u) l′ then′
+  pub total-node-raised : (n f x part old sum : ℕ) → Pass (given t choice known) (Sized sizes) putSizes (Held (λ j. true) (totalNodeForm (programOf t)) n) k clock m l then → n < known .of .nodes → f ≡ programOf t .owner n → f < known .of .functions → x ≡ 4 * f → part ≡ 4 * (known .of .functions + n) → old ≡ at m x → sum ≡ cap (frameOf (programOf t) f + at m part) → {l′ : List ℕ} {u then′ : ℕ} → Raised l x old part part sum then l′ u then′ → Pass (given t choice known) (Sized sizes) putSizes (Held (λ j. true) (totalNodeForm (programOf t)) (n + 1)) k clock (set m x u) l′ then′
   total-node-raised n f x part old sum p h f-is f-low x-is part-is old-is sum-is R =
       let e : part ≡ 4 * (programOf t .functions + n) + 0 = omega (arith, functions-are t (known .of) ready) in
       let low : part < 2304 = omega (arith, few-functions t (known .of) ready, few-nodes t (known .of) ready) in
@@ -44,7 +44,7 @@ module _ (t choice : List ℕ) (known : Known) (ready : Ready t (known .of)) {si
       (λ v a. omega (arith, ap (frameOf (programOf t)) f-is, ap (at m) e))
       (rw (← old-is) R)
 
-  pub total-edge-raised : {after : List ℕ} (e p n f x part y old sum : ℕ) → Pass (given t choice known) (Summed After sizes after) putSizes (λ j. true) (totalEdgeOf t) e k clock m l then → e < known .of .edges → p ≡ edgeFrom t e → n ≡ edgeTo t e → p < known .of .nodes → n < known .of .nodes → f ≡ programOf t .owner n → f < known .of .functions → x ≡ 4 * f → part ≡ 4 * (known .of .functions + n) + 2 → y ≡ 2304 + p → old ≡ at m x → sum ≡ cap (frameOf (programOf t) f + cap (at after p + at m part)) → {l′ : List ℕ} {u then′ : ℕ} → Raised l x old y part sum then l′ u then′ → Pass (given t choice known) (Summed After sizes after) putSizes (λ j. true) (totalEdgeOf t) (e + 1) k clock (set m x u) l′ then′
+  pub total-edge-raised : {after : List ℕ} (e p n f x part y old sum : ℕ) → Pass (given t choice known) (Summed After sizes after) putSizes (Held (λ j. true) (totalEdgeOf t) e) k clock m l then → e < known .of .edges → p ≡ edgeFrom t e → n ≡ edgeTo t e → p < known .of .nodes → n < known .of .nodes → f ≡ programOf t .owner n → f < known .of .functions → x ≡ 4 * f → part ≡ 4 * (known .of .functions + n) + 2 → y ≡ 2304 + p → old ≡ at m x → sum ≡ cap (frameOf (programOf t) f + cap (at after p + at m part)) → {l′ : List ℕ} {u then′ : ℕ} → Raised l x old y part sum then l′ u then′ → Pass (given t choice known) (Summed After sizes after) putSizes (Held (λ j. true) (totalEdgeOf t) (e + 1)) k clock (set m x u) l′ then′
   total-edge-raised {after} e p n f x part y old sum q h p-is n-is p-low n-low f-is f-low x-is part-is y-is old-is sum-is R =
       let N = edgeTo t e in
       let g : part ≡ 4 * (programOf t .functions + N) + 2 = omega (arith, functions-are t (known .of) ready) in
@@ -59,7 +59,7 @@ module _ (t choice : List ℕ) (known : Known) (ready : Ready t (known .of)) {si
       (λ v a. omega (arith, ap (frameOf (programOf t)) o, sum-in-sizes After sizes after m v a (edgeFrom t e), ap (at after) p-is, ap (at m) g))
       (rw (← old-is) R)
 
-  pub target-raised : (i f j x part old sum : ℕ) → Pass (given t choice known) (Sized sizes) putSizes (targetOn t choice) (targetAt t) i k clock m l then → i < 4 * known .of .nodes → targetOn t choice i ≡ true → f ≡ programOf t .target (i / 4) → f < known .of .functions → j ≡ taken (programOf t) (i / 4) (i % 4) → j ≤ 3 → x ≡ 4 * known .of .functions + i → part ≡ 4 * f + j → old ≡ at m x → sum ≡ at m part → sum ≤ unbounded → {l′ : List ℕ} {u then′ : ℕ} → Raised l x old part part sum then l′ u then′ → Pass (given t choice known) (Sized sizes) putSizes (targetOn t choice) (targetAt t) (i + 1) k clock (set m x u) l′ then′
+  pub target-raised : (i f j x part old sum : ℕ) → Pass (given t choice known) (Sized sizes) putSizes (Held (targetOn t choice) (targetAt t) i) k clock m l then → i < 4 * known .of .nodes → targetOn t choice i ≡ true → f ≡ programOf t .target (i / 4) → f < known .of .functions → j ≡ taken (programOf t) (i / 4) (i % 4) → j ≤ 3 → x ≡ 4 * known .of .functions + i → part ≡ 4 * f + j → old ≡ at m x → sum ≡ at m part → sum ≤ unbounded → {l′ : List ℕ} {u then′ : ℕ} → Raised l x old part part sum then l′ u then′ → Pass (given t choice known) (Sized sizes) putSizes (Held (targetOn t choice) (targetAt t) (i + 1)) k clock (set m x u) l′ then′
   target-raised i f j x part old sum p h o f-is f-low j-is j-low x-is part-is old-is sum-is le R =
       let e : part ≡ 4 * programOf t .target (i / 4) + taken (programOf t) (i / 4) (i % 4) = omega arith in
       let low : part < 2304 = omega (arith, few-functions t (known .of) ready) in

@@ -58,8 +58,8 @@ pub record Passed (S : Given) (Q : Type 0) (v : Values) (k : List ℕ) (clock : 
   pub quiet : then ≡ clock → (w ≡ v) × Q
 
 -- Of the rules that F gives by number where `on` says so, the first i hold at v.
-pub record Held (on : ℕ → Bool) (F : ℕ → Form) (i : ℕ) (v : Entry → ℕ) : Type 0 where
-  pub held : (j : ℕ) → j < i → on j ≡ true → gives v (F j) ≤ v (F j .head)
+pub record Held (on : ℕ → Bool) (F : ℕ → Form) (i : ℕ) (v : Values) : Type 0 where
+  pub held : (j : ℕ) → j < i → on j ≡ true → gives (valueAt v) (F j) ≤ valueAt v (F j .head)
 
 -- What a pass knows of the values: the sizes, or the sizes and one sum.
 pub record Sized (sizes : List ℕ) (v : Values) : Type 0 where
@@ -69,9 +69,9 @@ pub record Summed (s : Sum) (sizes sums-of : List ℕ) (v : Values) : Type 0 whe
   pub sizes-are : v .sizes ≡ sizes
   pub sums-are : sums s v ≡ sums-of
 
--- A pass over i rules that owns one array, now r, whatever the arrays that it does not know.
-pub record Pass (S : Given) (A : Values → Type 0) (put : List ℕ → Values → Values) (on : ℕ → Bool) (F : ℕ → Form) (i : ℕ) (k : List ℕ) (clock : ℕ) (r l : List ℕ) (then : ℕ) : Type 0 where
-  pub pass : (v : Values) → A v → State S v k → Passed S (Held on F i (valueAt v)) v k clock (put r v) l then
+-- What a pass does that owns some of the values and leaves r in their place, whatever the values that it does not know.
+pub record Pass (S : Given) (A : Values → Type 0) {R : Type 0} (put : R → Values → Values) (Q : Values → Type 0) (k : List ℕ) (clock : ℕ) (r : R) (l : List ℕ) (then : ℕ) : Type 0 where
+  pub pass : (v : Values) → A v → State S v k → Passed S (Q v) v k clock (put r v) l then
 
 -- What a pass asks for: there are such values, and the clock cannot run over.
 pub record Can (S : Given) (A : Values → Type 0) (k : List ℕ) (clock : ℕ) : Type 0 where

@@ -16,7 +16,7 @@ ghost use Rattle.sync.specs.Words.{member};
 ghost use Rattle.sizes.specs.Size.{valueOf};
 ghost use Rattle.sizes.specs.System.{kindFor, starts, from, to, steps, turn, ending, ends, due, startForm, endForm};
 ghost use Rattle.sizes.specs.Causes.{offset};
-ghost use Rattle.sizes.specs.Passes.{Summed, putSums, putSizes, Pass, Can};
+ghost use Rattle.sizes.specs.Passes.{Summed, putSums, putSizes, Held, Pass, Can};
 ghost use Rattle.sizes.specs.Known.{given, stepOn, stepOf};
 
 // Which sum of a node: the largest, over open paths, of
@@ -78,7 +78,7 @@ pub(crate) fn start(
 ) -> [Size; 512]
     requires { ⌜ Ready (now t) (known .of) × (length (now stamps) ≡ 3840) ⌝ }
     requires { ⌜ Can (given (now t) (now choice) known) (Summed s (map valueOf sizes) (map valueOf from)) (now causes) (now clock) ⌝ }
-    ensures { λ r. ⌜ Pass (given (now (t .entry)) (now (choice .entry)) known) (Summed s (map valueOf sizes) (map valueOf from)) (putSums s) (starts (programOf (now (t .entry))) s) (startForm (programOf (now (t .entry))) s) (known .of .nodes) (now (causes .entry)) (now (clock .entry)) (map valueOf r) (now (causes .exit)) (now (clock .exit)) ⌝ }
+    ensures { λ r. ⌜ Pass (given (now (t .entry)) (now (choice .entry)) known) (Summed s (map valueOf sizes) (map valueOf from)) (putSums s) (Held (starts (programOf (now (t .entry))) s) (startForm (programOf (now (t .entry))) s) (known .of .nodes)) (now (causes .entry)) (now (clock .entry)) (map valueOf r) (now (causes .exit)) (now (clock .exit)) ⌝ }
 {
     let mut sums = from;
     let mut n: usize = 0;
@@ -168,7 +168,7 @@ pub(crate) fn step(
 ) -> [Size; 512]
     requires { ⌜ Ready (now t) (known .of) × (length (now stamps) ≡ 3840) ⌝ }
     requires { ⌜ Can (given (now t) (now choice) known) (Summed s (map valueOf sizes) (map valueOf from)) (now causes) (now clock) ⌝ }
-    ensures { λ r. ⌜ Pass (given (now (t .entry)) (now (choice .entry)) known) (Summed s (map valueOf sizes) (map valueOf from)) (putSums s) (stepOn (now (t .entry)) known s) (stepOf (now (t .entry)) known s) (known .of .edges) (now (causes .entry)) (now (clock .entry)) (map valueOf r) (now (causes .exit)) (now (clock .exit)) ⌝ }
+    ensures { λ r. ⌜ Pass (given (now (t .entry)) (now (choice .entry)) known) (Summed s (map valueOf sizes) (map valueOf from)) (putSums s) (Held (stepOn (now (t .entry)) known s) (stepOf (now (t .entry)) known s) (known .of .edges)) (now (causes .entry)) (now (clock .entry)) (map valueOf r) (now (causes .exit)) (now (clock .exit)) ⌝ }
 {
     let mut sums = from;
     let mut i: usize = 0;
@@ -250,7 +250,7 @@ pub(crate) fn end(
 ) -> [Size; 2304]
     requires { ⌜ Ready (now t) (known .of) × (length (now stamps) ≡ 3840) ⌝ }
     requires { ⌜ Can (given (now t) (now choice) known) (Summed s (map valueOf from) (map valueOf sums)) (now causes) (now clock) ⌝ }
-    ensures { λ r. ⌜ Pass (given (now (t .entry)) (now (choice .entry)) known) (Summed s (map valueOf from) (map valueOf sums)) putSizes (ends (programOf (now (t .entry))) (member (known .reached)) s) (endForm (programOf (now (t .entry))) s) (known .of .functions) (now (causes .entry)) (now (clock .entry)) (map valueOf r) (now (causes .exit)) (now (clock .exit)) ⌝ }
+    ensures { λ r. ⌜ Pass (given (now (t .entry)) (now (choice .entry)) known) (Summed s (map valueOf from) (map valueOf sums)) putSizes (Held (ends (programOf (now (t .entry))) (member (known .reached)) s) (endForm (programOf (now (t .entry))) s) (known .of .functions)) (now (causes .entry)) (now (clock .entry)) (map valueOf r) (now (causes .exit)) (now (clock .exit)) ⌝ }
 {
     let mut sizes = from;
     let mut f: usize = 0;

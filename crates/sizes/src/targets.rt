@@ -13,7 +13,7 @@ ghost use Rattle.table.specs.Program.{programOf};
 ghost use Rattle.sizes.specs.Size.{valueOf};
 ghost use Rattle.sizes.specs.System.{takes, taken};
 ghost use Rattle.sizes.specs.Causes.{at};
-ghost use Rattle.sizes.specs.Passes.{Sized, putSizes, Pass, Can};
+ghost use Rattle.sizes.specs.Passes.{Sized, putSizes, Held, Pass, Can};
 ghost use Rattle.sizes.specs.Known.{given, targetOn, targetAt};
 
 // The byte of node n in a choice, and 0 past its end.
@@ -53,7 +53,7 @@ pub(crate) fn targets(
 ) -> [Size; 2304]
     requires { ⌜ Ready (now t) (known .of) × (length (now stamps) ≡ 3840) ⌝ }
     requires { ⌜ Can (given (now t) (now choice) known) (Sized (map valueOf from)) (now causes) (now clock) ⌝ }
-    ensures { λ r. ⌜ Pass (given (now (t .entry)) (now (choice .entry)) known) (Sized (map valueOf from)) putSizes (targetOn (now (t .entry)) (now (choice .entry))) (targetAt (now (t .entry))) (4 * known .of .nodes) (now (causes .entry)) (now (clock .entry)) (map valueOf r) (now (causes .exit)) (now (clock .exit)) ⌝ }
+    ensures { λ r. ⌜ Pass (given (now (t .entry)) (now (choice .entry)) known) (Sized (map valueOf from)) putSizes (Held (targetOn (now (t .entry)) (now (choice .entry))) (targetAt (now (t .entry))) (4 * known .of .nodes)) (now (causes .entry)) (now (clock .entry)) (map valueOf r) (now (causes .exit)) (now (clock .exit)) ⌝ }
 {
     let mut sizes = from;
     let mut i: usize = 0;

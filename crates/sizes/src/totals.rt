@@ -14,7 +14,7 @@ ghost use mathlib.Core.Bool.{true};
 ghost use Rattle.sizes.specs.Size.{valueOf, sizeOf};
 ghost use Rattle.sizes.specs.Rules.{frameOf};
 ghost use Rattle.sizes.specs.System.{totalNodeForm};
-ghost use Rattle.sizes.specs.Passes.{Sized, Summed, putSizes, Pass, Can};
+ghost use Rattle.sizes.specs.Passes.{Sized, Summed, putSizes, Held, Pass, Can};
 ghost use Rattle.sizes.specs.Known.{given, totalEdgeOf};
 ghost use Rattle.sizes.specs.declared.sums.Sum.the-variants.{After};
 
@@ -45,7 +45,7 @@ pub(crate) fn total_nodes(
 ) -> [Size; 2304]
     requires { ⌜ Ready (now t) (known .of) × (length (now stamps) ≡ 3840) ⌝ }
     requires { ⌜ Can (given (now t) (now choice) known) (Sized (map valueOf from)) (now causes) (now clock) ⌝ }
-    ensures { λ r. ⌜ Pass (given (now (t .entry)) (now (choice .entry)) known) (Sized (map valueOf from)) putSizes (λ n. true) (totalNodeForm (programOf (now (t .entry)))) (known .of .nodes) (now (causes .entry)) (now (clock .entry)) (map valueOf r) (now (causes .exit)) (now (clock .exit)) ⌝ }
+    ensures { λ r. ⌜ Pass (given (now (t .entry)) (now (choice .entry)) known) (Sized (map valueOf from)) putSizes (Held (λ n. true) (totalNodeForm (programOf (now (t .entry)))) (known .of .nodes)) (now (causes .entry)) (now (clock .entry)) (map valueOf r) (now (causes .exit)) (now (clock .exit)) ⌝ }
 {
     let mut sizes = from;
     let mut n: usize = 0;
@@ -76,7 +76,7 @@ pub(crate) fn total_edges(
 ) -> [Size; 2304]
     requires { ⌜ Ready (now t) (known .of) × (length (now stamps) ≡ 3840) ⌝ }
     requires { ⌜ Can (given (now t) (now choice) known) (Summed After (map valueOf from) (map valueOf after)) (now causes) (now clock) ⌝ }
-    ensures { λ r. ⌜ Pass (given (now (t .entry)) (now (choice .entry)) known) (Summed After (map valueOf from) (map valueOf after)) putSizes (λ e. true) (totalEdgeOf (now (t .entry))) (known .of .edges) (now (causes .entry)) (now (clock .entry)) (map valueOf r) (now (causes .exit)) (now (clock .exit)) ⌝ }
+    ensures { λ r. ⌜ Pass (given (now (t .entry)) (now (choice .entry)) known) (Summed After (map valueOf from) (map valueOf after)) putSizes (Held (λ e. true) (totalEdgeOf (now (t .entry))) (known .of .edges)) (now (causes .entry)) (now (clock .entry)) (map valueOf r) (now (causes .exit)) (now (clock .exit)) ⌝ }
 {
     let mut sizes = from;
     let mut e: usize = 0;
