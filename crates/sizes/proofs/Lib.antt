@@ -9,5 +9,6 @@ mod Passes
 mod Maps
 mod Along
 mod Raising
+mod Rounds
 mod Derived
 mod Solved

@@ -184,12 +184,12 @@ sums-put After l v = refl
 sums-put Before l v = refl
 sums-put Through l v = refl
 
-sizes-put : (s : Sum) (l : List ℕ) (v : Values) → putSums s l v .sizes ≡ v .sizes
+pub sizes-put : (s : Sum) (l : List ℕ) (v : Values) → putSums s l v .sizes ≡ v .sizes
 sizes-put After l v = refl
 sizes-put Before l v = refl
 sizes-put Through l v = refl
 
-sums-kept : (s : Sum) (l : List ℕ) (v : Values) → sums s (putSizes l v) ≡ sums s v
+pub sums-kept : (s : Sum) (l : List ℕ) (v : Values) → sums s (putSizes l v) ≡ sums s v
 sums-kept After l v = refl
 sums-kept Before l v = refl
 sums-kept Through l v = refl

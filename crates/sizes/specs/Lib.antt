@@ -3,6 +3,7 @@ pub mod Size
 pub mod Choice
 pub mod Rules
 pub mod Sums
+pub mod Answer
 -- What only helps proofs.
 pub mod System
 pub mod Causes

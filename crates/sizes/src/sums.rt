@@ -17,7 +17,7 @@ ghost use Rattle.sizes.specs.Size.{valueOf};
 ghost use Rattle.sizes.specs.System.{kindFor, starts, from, to, steps, turn, ending, ends, due, startForm, endForm};
 ghost use Rattle.sizes.specs.Causes.{offset};
 ghost use Rattle.sizes.specs.Passes.{Summed, putSums, putSizes, Held, Pass, Can};
-ghost use Rattle.sizes.specs.Known.{given, stepOn, stepOf};
+ghost use Rattle.sizes.specs.Known.{given, stepOn, stepOf, SumsHeld};
 
 // Which sum of a node: the largest, over open paths, of
 // After: Post of the first node and Through of the others, on paths that end at the node with no member after the first;
@@ -268,4 +268,24 @@ pub(crate) fn end(
         }
     }
     sizes
+}
+
+// Raises a sum of all nodes.
+pub(crate) fn raise_sums(
+    t: &[u8],
+    choice: &[u8],
+    known: Known,
+    s: Sum,
+    sizes: [Size; 2304],
+    from: [Size; 512],
+    causes: &mut [u16],
+    stamps: &mut [u32],
+    clock: &mut u32,
+) -> [Size; 512]
+    requires { ⌜ Ready (now t) (known .of) × (length (now stamps) ≡ 3840) ⌝ }
+    requires { ⌜ Can (given (now t) (now choice) known) (Summed s (map valueOf sizes) (map valueOf from)) (now causes) (now clock) ⌝ }
+    ensures { λ r. ⌜ Pass (given (now (t .entry)) (now (choice .entry)) known) (Summed s (map valueOf sizes) (map valueOf from)) (putSums s) (SumsHeld (now (t .entry)) known s) (now (causes .entry)) (now (clock .entry)) (map valueOf r) (now (causes .exit)) (now (clock .exit)) ⌝ }
+{
+    let started = start(t, choice, known, s, sizes, from, causes, stamps, clock);
+    step(t, choice, known, s, sizes, started, causes, stamps, clock)
 }

@@ -2,11 +2,13 @@
 use crate::Known;
 use crate::causes::raised;
 use crate::size::Size;
+use crate::sums::Sum;
+use crate::sums::end;
 use table::Counts;
 use table::program;
 ghost use mathlib.Core.Path.{_≡_};
 ghost use mathlib.Core.List.{map};
-ghost use Prim.Native.Nat.{_*_, _<_, _≤_};
+ghost use Prim.Native.Nat.{_+_, _<_};
 ghost use lib.ListN.{length};
 ghost use Rattle.table.specs.Answer.{Ready};
 ghost use Rattle.table.specs.Program.{programOf};
@@ -14,8 +16,8 @@ ghost use mathlib.Core.Bool.{true};
 ghost use Rattle.sizes.specs.Size.{valueOf, sizeOf};
 ghost use Rattle.sizes.specs.Rules.{frameOf};
 ghost use Rattle.sizes.specs.System.{totalNodeForm};
-ghost use Rattle.sizes.specs.Passes.{Sized, Summed, putSizes, Held, Pass, Can};
-ghost use Rattle.sizes.specs.Known.{given, totalEdgeOf};
+ghost use Rattle.sizes.specs.Passes.{Sized, Summed, putSizes, roomOf, State, Passed, Held, Pass, Can};
+ghost use Rattle.sizes.specs.Known.{given, valuesOf, totalEdgeOf, FunctionsHeld};
 ghost use Rattle.sizes.specs.declared.sums.Sum.the-variants.{After};
 
 fn narrow(x: usize) -> u32
@@ -93,4 +95,58 @@ pub(crate) fn total_edges(
         sizes[x] = new;
     }
     sizes
+}
+
+// Raises the sizes of functions.
+pub(crate) fn raise_functions(
+    t: &[u8],
+    choice: &[u8],
+    known: Known,
+    after: [Size; 512],
+    before: [Size; 512],
+    through: [Size; 512],
+    from: [Size; 2304],
+    causes: &mut [u16],
+    stamps: &mut [u32],
+    clock: &mut u32,
+) -> [Size; 2304]
+    requires { ⌜ Ready (now t) (known .of) × (length (now stamps) ≡ 3840) ⌝ }
+    requires { ⌜ State (given (now t) (now choice) known) (valuesOf from after before through) (now causes) × (now clock + roomOf (valuesOf from after before through) < 1000000000) ⌝ }
+    ensures { λ r. ⌜ Passed (given (now (t .entry)) (now (choice .entry)) known) (FunctionsHeld (now (t .entry)) known (valuesOf from after before through)) (valuesOf from after before through) (now (causes .entry)) (now (clock .entry)) (valuesOf r after before through) (now (causes .exit)) (now (clock .exit)) ⌝ }
+{
+    let posts = end(
+        t,
+        choice,
+        known,
+        Sum::After,
+        after,
+        from,
+        causes,
+        stamps,
+        clock,
+    );
+    let pres = end(
+        t,
+        choice,
+        known,
+        Sum::Before,
+        before,
+        posts,
+        causes,
+        stamps,
+        clock,
+    );
+    let throughs = end(
+        t,
+        choice,
+        known,
+        Sum::Through,
+        through,
+        pres,
+        causes,
+        stamps,
+        clock,
+    );
+    let totals = total_nodes(t, choice, known, throughs, causes, stamps, clock);
+    total_edges(t, choice, known, after, totals, causes, stamps, clock)
 }
