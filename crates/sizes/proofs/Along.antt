@@ -25,7 +25,7 @@ kind-le After = omega arith
 kind-le Before = omega arith
 kind-le Through = omega arith
 
-turn-low : (s : Sum) (k i : ℕ) → i < k → turn s k i < k
+pub turn-low : (s : Sum) (k i : ℕ) → i < k → turn s k i < k
 turn-low After k i h = h
 turn-low Before k i h = omega arith
 turn-low Through k i h = h

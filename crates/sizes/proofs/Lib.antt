@@ -10,5 +10,7 @@ mod Maps
 mod Along
 mod Raising
 mod Rounds
+mod Closing
+mod Writing
 mod Derived
 mod Solved

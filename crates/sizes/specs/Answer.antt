@@ -1,11 +1,21 @@
--- What finding sizes gives: the least table that meets the rules, and the largest sums along open paths.
-use Prim.Native.Nat.{ℕ, _<_}
+-- What finding sizes gives, and what is written of it.
+use Prim.Native.Nat.{ℕ, _<_, _≤_}
+use mathlib.Core.Path.{_≡_}
+use mathlib.Core.List.{List}
 use mathlib.Core.Bool.{Bool}
+use lib.ListN.{length, getD}
 use Rattle.table.specs.Program.{Program}
 use Rattle.sizes.specs.Rules.{Least}
 use Rattle.sizes.specs.Sums.{LargestAfter, LargestBefore}
 
+-- The least table that meets the rules, and the largest sums along open paths.
 pub record SizesOf (g : Program) (set : ℕ → Bool) (choice sizes after before : ℕ → ℕ) : Type 0 where
   pub least : Least g set choice sizes
   pub after-is : (n : ℕ) → n < g .nodes → LargestAfter g set sizes n (after n)
   pub before-is : (n : ℕ) → n < g .nodes → LargestBefore g set sizes n (before n)
+
+-- "Numbers past the needed [..] keep their old content": the first of the numbers are written, and no others.
+pub record Written (count : ℕ) (numbers : ℕ → ℕ) (old new : List ℕ) : Type 0 where
+  pub long : length new ≡ length old
+  pub written : (i : ℕ) → i < count → getD new i 0 ≡ numbers i
+  pub tail : (i : ℕ) → count ≤ i → getD new i 0 ≡ getD old i 0

@@ -1,5 +1,6 @@
 // The sizes of a choice. Document 01, "Sizes and their rules".
 mod causes;
+pub mod find;
 pub mod size;
 mod sums;
 mod targets;

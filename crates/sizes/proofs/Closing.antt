@@ -1,0 +1,144 @@
+-- After a pass that raises nothing, the values are a solution; so they are the least sizes and the largest sums.
+use Prim.Native.Nat.{ℕ, zero, suc, _+_, _-_, _*_, _/_, _%_, _<_, _≤_}
+use mathlib.Core.Path.{_≡_, refl, sym, ap, ap₂, _∙_, subst}
+use mathlib.Core.Bool.{true}
+use mathlib.Core.List.{List}
+use native.Mathlib.Omega.{arith}
+use lib.ListN.{length, replicate, length-replicate}
+use Rattle.table.specs.Record.{edgeFrom, edgeTo}
+use Rattle.table.specs.Answer.{Ready}
+use Rattle.table.specs.Program.{programOf}
+use Rattle.table.proofs.Laws.{well-formed, edge-which}
+use Rattle.table.proofs.Ready.{few-nodes, functions-are, nodes-are}
+use Rattle.sync.specs.Words.{member}
+use Rattle.sync.specs.Answer.{Sets}
+use Rattle.sizes.specs.Answer.{SizesOf, Written}
+use Rattle.sizes.specs.Sums.{LargestAfter, LargestBefore}
+use Rattle.sizes.specs.System.{Entry, size, along, turn, steps, takes, Form, stepForm, totalEdgeForm, targetForm, Solved, formOf, gives, start, step-on, end, total-node, total-edge, target-of}
+use Rattle.sizes.specs.Causes.{Given, RuleOf, at}
+use Rattle.sizes.specs.Passes.{Values, sums, valueAt, room, roomOf, State, Passed}
+use Rattle.sizes.specs.Known.{given, AllHeld}
+use Rattle.sizes.specs.declared.Known.{Known}
+use Rattle.sizes.specs.declared.sums.Sum.{Sum}
+use Rattle.sizes.specs.declared.sums.Sum.the-variants.{After, Before, Through}
+use Rattle.sizes.proofs.Rises.{zeros-ok}
+use Rattle.sizes.proofs.Along.{turn-low}
+use Rattle.sizes.proofs.Solved.{solved-least, solved-after, solved-before}
+
+-- every edge has its turn
+turn-back : (s : Sum) (k e : ℕ) → e < k → turn s k (turn s k e) ≡ e
+turn-back After k e h = refl
+turn-back Before k e h = omega arith
+turn-back Through k e h = refl
+
+module _ (t choice : List ℕ) (known : Known) (ready : Ready t (known .of)) (v : Values) (held : AllHeld t choice known v) where
+  -- a form that holds, by what it is
+  holds : (f g : Form) → f ≡ g → gives (valueAt v) f ≤ valueAt v (f .head) → gives (valueAt v) g ≤ valueAt v (g .head)
+  holds f g e h = rw e at h
+
+  all-closed : (r : RuleOf (given t choice known)) → gives (valueAt v) (formOf r) ≤ valueAt v (formOf r .head)
+  all-closed (start s n h b) = held .sums-held s .start-held .held n (omega (arith, nodes-are t (known .of) ready)) b
+  all-closed (step-on s p n e b) =
+      let x = edge-which t p n e in
+      let k = known .of .edges in
+      let low : x .0 < k = omega (arith, ready .counts-are .edges-are, x .1) in
+      let i = turn s k (x .0) in
+      let back = turn-back s k (x .0) low in
+      let from : edgeFrom t (turn s k i) ≡ p = ap (edgeFrom t) back ∙ x .2 in
+      let to : edgeTo t (turn s k i) ≡ n = ap (edgeTo t) back ∙ x .3 in
+      holds (stepForm (programOf t) s (edgeFrom t (turn s k i)) (edgeTo t (turn s k i))) (stepForm (programOf t) s p n) (ap₂ (stepForm (programOf t) s) from to)
+      (held .sums-held s .step-held .held i (turn-low s k (x .0) low) (ap₂ (steps (member (known .synchronising)) (member (known .reached)) s) from to ∙ b))
+  all-closed (end s f h b) = held .functions-held .end-held s .held f (omega (arith, functions-are t (known .of) ready)) b
+  all-closed (total-node n h) = held .functions-held .total-node-held .held n (omega (arith, nodes-are t (known .of) ready)) refl
+  all-closed (total-edge p n e) =
+      let x = edge-which t p n e in
+      holds (totalEdgeForm (programOf t) (edgeFrom t (x .0)) (edgeTo t (x .0))) (totalEdgeForm (programOf t) p n) (ap₂ (totalEdgeForm (programOf t)) (x .2) (x .3))
+      (held .functions-held .total-edge-held .held (x .0) (omega (arith, ready .counts-are .edges-are, x .1)) refl)
+  all-closed (target-of n k h l b) =
+      let i = 4 * n + k in
+      let a : i / 4 ≡ n = omega arith in
+      let c : i % 4 ≡ k = omega arith in
+      holds (targetForm (programOf t) (i / 4) (i % 4)) (targetForm (programOf t) n k) (ap₂ (targetForm (programOf t)) a c)
+      (held .target-held .held i (omega (arith, nodes-are t (known .of) ready)) (ap₂ (takes (programOf t) (at choice)) a c ∙ b))
+
+  pub sizes-found : {causes : List ℕ} → State (given t choice known) v causes → Sets (programOf t) (known .synchronising) (known .reached) → SizesOf (programOf t) (member (known .synchronising)) (at choice) (at (v .sizes)) (at (v .after)) (at (v .before))
+  sizes-found st sets =
+      let w = well-formed t (ready .accepted-is) in
+      let x : Solved (programOf t) (member (known .synchronising)) (member (known .reached)) (at choice) (valueAt v) = record { derived = st .ok .sound; closed = all-closed } in
+      record {
+        least = solved-least (programOf t) (member (known .synchronising)) (member (known .reached)) (at choice) w (sets .set) (sets .reach) (valueAt v) x;
+        after-is = solved-after (programOf t) (member (known .synchronising)) (member (known .reached)) (at choice) w (sets .set) (sets .reach) (valueAt v) x;
+        before-is = solved-before (programOf t) (member (known .synchronising)) (member (known .reached)) (at choice) w (sets .set) (sets .reach) (valueAt v) x;
+      }
+
+module _ (t choice : List ℕ) (known : Known) (ready : Ready t (known .of)) where
+  -- so is what a whole pass leaves that raised nothing
+  pub quiet-found : {v w : Values} {k causes : List ℕ} {clock then : ℕ} → Passed (given t choice known) (AllHeld t choice known v) v k clock w causes then → then ≡ clock → Sets (programOf t) (known .synchronising) (known .reached) → SizesOf (programOf t) (member (known .synchronising)) (at choice) (at (w .sizes)) (at (w .after)) (at (w .before))
+  quiet-found {v} {w} p e sets =
+      let q = p .quiet e in
+      sizes-found t choice known ready w (subst (AllHeld t choice known) (sym (q .0)) (q .1)) (p .state) sets
+
+  -- with its sums written out
+  pub found-written : (sizes after before : List ℕ) {afters befores old older : List ℕ} → SizesOf (programOf t) (member (known .synchronising)) (at choice) (at sizes) (at after) (at before) → Written 512 (at after) old afters → Written 512 (at before) older befores → SizesOf (programOf t) (member (known .synchronising)) (at choice) (at sizes) (at afters) (at befores)
+  found-written sizes after before x a b =
+      let few : programOf t .nodes ≤ 512 = omega (arith, few-nodes t (known .of) ready, nodes-are t (known .of) ready) in
+      record {
+        least = x .least;
+        after-is = λ n h. subst (LargestAfter (programOf t) (member (known .synchronising)) (at sizes) n) (sym (a .written n (omega arith))) (x .after-is n h);
+        before-is = λ n h. subst (LargestBefore (programOf t) (member (known .synchronising)) (at sizes) n) (sym (b .written n (omega arith))) (x .before-is n h);
+      }
+
+-- ---- the start
+
+at-all : (n x : ℕ) → at (replicate n 0) x ≡ 0
+at-all zero x = refl
+at-all (suc n) zero = refl
+at-all (suc n) (suc x) = at-all n x
+
+at-same : (n v x : ℕ) → x < n → at (replicate n v) x ≡ v
+at-same zero v x h = absurd (omega arith)
+at-same (suc n) v zero h = refl
+at-same (suc n) v (suc x) h = at-same n v x (omega arith)
+
+room-zeros : (n : ℕ) → room (replicate n 0) ≡ 65536 * n
+room-zeros zero = refl
+room-zeros (suc n) = omega (arith, room-zeros n)
+
+-- zeros without causes
+pub record Zeros (v : Values) : Type 0 where
+  pub sizes-zero : v .sizes ≡ replicate 2304 0
+  pub after-zero : v .after ≡ replicate 512 0
+  pub before-zero : v .before ≡ replicate 512 0
+  pub through-zero : v .through ≡ replicate 512 0
+
+pub zeros-state : (S : Given) (v : Values) (k : List ℕ) → Zeros v → k ≡ replicate 3840 65535 → State S v k
+zeros-state S v k z e = record {
+  ok = zeros-ok S (valueAt v) (at k) all (λ x h. omega (arith, ap (λ (l : List ℕ). at l x) e, at-same 3840 65535 x h));
+  sizes-long = ap length (z .sizes-zero) ∙ length-replicate {A = ℕ} 2304 0;
+  sums-long = long;
+  causes-long = ap length e ∙ length-replicate {A = ℕ} 3840 65535;
+}
+  where
+    zero-in : (n : ℕ) (l : List ℕ) → l ≡ replicate n 0 → (x : ℕ) → at l x ≡ 0
+    zero-in n l q x = ap (λ (m : List ℕ). at m x) q ∙ at-all n x
+
+    all : (x : Entry) → valueAt v x ≡ 0
+    all (size x) = zero-in 2304 (v .sizes) (z .sizes-zero) x
+    all (along After n) = zero-in 512 (v .after) (z .after-zero) n
+    all (along Before n) = zero-in 512 (v .before) (z .before-zero) n
+    all (along Through n) = zero-in 512 (v .through) (z .through-zero) n
+
+    long : (s : Sum) → length (sums s v) ≡ 512
+    long After = ap length (z .after-zero) ∙ length-replicate {A = ℕ} 512 0
+    long Before = ap length (z .before-zero) ∙ length-replicate {A = ℕ} 512 0
+    long Through = ap length (z .through-zero) ∙ length-replicate {A = ℕ} 512 0
+
+pub zeros-room : (v : Values) → Zeros v → roomOf v ≡ 251658240
+zeros-room v z =
+    omega (
+      arith,
+      ap room (z .sizes-zero) ∙ room-zeros 2304,
+      ap room (z .after-zero) ∙ room-zeros 512,
+      ap room (z .before-zero) ∙ room-zeros 512,
+      ap room (z .through-zero) ∙ room-zeros 512,
+    )

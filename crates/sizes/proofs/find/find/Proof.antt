@@ -1,0 +1,35 @@
+use Prim.Native.Nat.{ℕ}
+use mathlib.Core.Path.{refl}
+use lib.ListN.{length-replicate}
+use borrow.Author.Needs.{needs}
+use Rattle.sizes.proofs.find.find.Statement.{statement}
+use Rattle.sizes.proofs.find.find.Tie as tie
+
+slice-aggregate-solve : tie.Need-slice-aggregate-solve
+slice-aggregate-solve c = search needs
+
+slice-aggregate-solve-2 : tie.Need-slice-aggregate-solve-2
+slice-aggregate-solve-2 c = search needs
+
+solve-requires : tie.Need-solve-requires
+solve-requires c κs = (c .before .before .before .before .before .before .before .before .before .pre .0, ((refl, length-replicate {A = ℕ} 3840 0), c .before .before .before .before .before .before .before .before .before .pre .1))
+
+same-length : tie.Need-same-length
+same-length c = search needs
+
+same-length-2 : tie.Need-same-length-2
+same-length-2 c = search needs
+
+returns : tie.Need-returns
+returns c = search needs
+
+pub find-spec : {M : Type 1} → statement M
+find-spec =
+    tie.close
+    (tie.spec
+    slice-aggregate-solve
+    slice-aggregate-solve-2
+    solve-requires
+    same-length
+    same-length-2
+    returns)
