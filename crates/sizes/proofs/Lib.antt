@@ -12,5 +12,6 @@ mod Raising
 mod Rounds
 mod Closing
 mod Writing
+mod Calls
 mod Derived
 mod Solved

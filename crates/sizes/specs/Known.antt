@@ -3,15 +3,28 @@ use Prim.Native.Nat.{ℕ, _*_, _/_, _%_}
 use mathlib.Core.Bool.{Bool, true}
 use mathlib.Core.List.{List, map}
 use Rattle.table.specs.Record.{edgeFrom, edgeTo}
+use Rattle.table.specs.Answer.{Ready}
 use Rattle.table.specs.Program.{programOf}
 use Rattle.sync.specs.Words.{member}
+use Rattle.sync.specs.Answer.{Sets}
 use Rattle.sizes.specs.Size.{valueOf}
 use Rattle.sizes.specs.System.{Form, starts, steps, turn, ends, takes, startForm, stepForm, endForm, totalNodeForm, totalEdgeForm, targetForm}
 use Rattle.sizes.specs.Causes.{Given, at}
 use Rattle.sizes.specs.Passes.{Values, Held}
+use Rattle.sizes.specs.Call.{Call}
+use Rattle.sizes.specs.declared.Answer.{Answer}
+use Rattle.sizes.specs.declared.Answer.the-variants.{Done, Refused}
 use Rattle.sizes.specs.declared.Known.{Known}
 use Rattle.sizes.specs.declared.size.Size.{Size}
 use Rattle.sizes.specs.declared.sums.Sum.{Sum}
+
+abbrev pub call : List ℕ → List ℕ → ℕ → Call
+call t choice buffer = record { table = t; choice = choice; buffer = buffer }
+
+-- what is known of the table of a call that is not refused
+abbrev pub AdmittedFor : List ℕ → Answer → Known → Type 0
+AdmittedFor t Done known = Ready t (known .of) × Sets (programOf t) (known .synchronising) (known .reached)
+AdmittedFor t (Refused number place) known = Unit {0}
 
 abbrev pub given : List ℕ → List ℕ → Known → Given
 given t choice known = record { program = programOf t; synchronising = member (known .synchronising); reached = member (known .reached); choice = at choice }

@@ -4,6 +4,7 @@ pub mod Choice
 pub mod Rules
 pub mod Sums
 pub mod Answer
+pub mod Call
 -- What only helps proofs.
 pub mod System
 pub mod Causes

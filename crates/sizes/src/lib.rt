@@ -1,4 +1,5 @@
 // The sizes of a choice. Document 01, "Sizes and their rules".
+pub mod admit;
 mod causes;
 pub mod find;
 pub mod size;
@@ -7,6 +8,12 @@ mod targets;
 mod totals;
 
 use table::Counts;
+
+// What a call comes to: `resultOf` in specs/Call.antt says what each case stands for.
+pub enum Answer {
+    Done,
+    Refused(u32, usize),
+}
 
 // What the crates below have found of an accepted table: its counts, its synchronising nodes, and those that are reached without them.
 pub struct Known {

@@ -17,7 +17,7 @@ ghost use Rattle.sizes.specs.Passes.{Sized, putSizes, Held, Pass, Can};
 ghost use Rattle.sizes.specs.Known.{given, targetOn, targetAt};
 
 // The byte of node n in a choice, and 0 past its end.
-fn chosen(choice: &[u8], n: usize) -> u8
+pub(crate) fn chosen(choice: &[u8], n: usize) -> u8
     ensures { λ r. ⌜ r ≡ at (now (choice .entry)) n ⌝ }
 {
     if n < choice.len() { choice[n] } else { 0 }

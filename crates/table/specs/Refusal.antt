@@ -8,6 +8,10 @@ pub record Check (X : Type 0) : Type 0 where
   pub number : ℕ
   pub place : X → Option ℕ
 
+-- a row about a part of what is checked
+abbrev pub over : {X Y : Type 0} → (X → Y) → Check Y → Check X
+over part c = record { number = c .number; place = λ x. c .place (part x) }
+
 -- "a numbered refusal with a place"
 pub record Refusal : Type 0 where
   pub number : ℕ
