@@ -1,22 +1,27 @@
 -- The checks of a call with a choice and a sizes buffer, one after another.
 use Prim.Native.Nat.{ℕ, _+_, _*_, _<_, _≤_}
-use mathlib.Core.Path.{_≡_, refl, sym, ap, _∙_}
-use mathlib.Core.Bool.{Bool, true, false}
-use mathlib.Core.List.{List}
-use mathlib.Core.Option.{Option, none, some}
+use mathlib.Core.Path.{_≡_, refl, sym, ap, _∙_, subst}
+use mathlib.Core.Bool.{Bool, true, false, true≢false, not, cond, _&&_, _||_}
+use mathlib.Core.List.{List, List·Memᴰ·head, List·Memᴰ·tail}
+use mathlib.Core.Option.{Option, none, some, Option·some-ne-none}
 use native.Mathlib.Omega.{arith}
+use lib.Dec.{eqb, leb}
 use lib.ListN.{length, drop}
-use borrow.Author.Tests.{eq-eqb, ne-eqb, lt-ltb, le-ltb}
+use borrow.Author.Tests.{eq-eqb, ne-eqb, eqb-true, lt-ltb, le-ltb, ltb-false, leb-true, not-true, not-false}
+use Rattle.table.specs.Below.{earliest}
+use Rattle.table.specs.Record.{spawn}
 use Rattle.table.specs.Refusal.{Refusal, refusedAt, refusal}
 use Rattle.table.specs.Checks.{checks, Accepted}
 use Rattle.table.specs.Program.{programOf}
 use Rattle.table.specs.Answer.{Ready}
 use Rattle.table.specs.Scan.{First}
 use Rattle.sync.specs.Answer.{Sets}
-use Rattle.table.proofs.Below.{first-some, first-none}
-use Rattle.table.proofs.Refusals.{refusal-pass, refusal-here, refusal-none, refusal-over-none, refusal-over-some}
+use Rattle.table.proofs.Booleans.{or-false, and-true-left, and-true-right}
+use Rattle.table.proofs.Below.{first-some, first-none, earliest-passed}
+use Rattle.table.proofs.Refusals.{refusal-pass, refusal-here, refusal-none, not-applied, refusal-over-none, refusal-over-some}
+use Rattle.sizes.specs.Choice.{unmerged, unguarded, ChoiceFor}
 use Rattle.sizes.specs.Rules.{entries}
-use Rattle.sizes.specs.Call.{Call, wrongLength, outside, tooShort, choiceChecks, callChecks, Result, done, refused, resultFor, result}
+use Rattle.sizes.specs.Call.{Call, choiceOf, wrongLength, outside, tooShort, choiceChecks, callChecks, Result, done, refused, resultFor, result}
 use Rattle.sizes.specs.Known.{AdmittedFor}
 use Rattle.sizes.specs.declared.Answer.{Answer}
 use Rattle.sizes.specs.declared.Answer.the-variants.{Done, Refused}
@@ -87,3 +92,99 @@ module _ (x : Call) where
 pub admitted : (t : List ℕ) (answer : Answer) (known : Known) → Ready t (known .of) → Sets (programOf t) (known .synchronising) (known .reached) → AdmittedFor t answer known
 admitted t Done known r s = (r, s)
 admitted t (Refused n p) known r s = tt
+
+pub admitted-done : (t : List ℕ) (answer : Answer) (known : Known) → answer ≡ Done → AdmittedFor t answer known → Ready t (known .of) × Sets (programOf t) (known .synchronising) (known .reached)
+admitted-done t answer known e = subst (λ (a : Answer). AdmittedFor t a known) e
+
+-- ---- a call that is not refused
+
+ruleset in-list = (List·Memᴰ·head, List·Memᴰ·tail)
+
+abbrev isDone : Result → Bool
+isDone done = true
+isDone (refused n p) = false
+
+-- its table is accepted, its bytes are a choice for it, and the sizes fit
+pub record Valid (x : Call) : Type 0 where
+  pub accepted-is : Accepted (x .table)
+  pub one-byte : length (x .choice) ≡ programOf (x .table) .nodes
+  pub choice-for : ChoiceFor (programOf (x .table)) (choiceOf (x .choice))
+  pub fits : entries (programOf (x .table)) ≤ x .buffer
+
+module _ (x : Call) where
+  none-refused : done ≡ result x → refusal callChecks x ≡ none
+  unfolding result resultFor
+  none-refused e = go (refusal callChecks x) refl
+    where
+      go : (o : Option Refusal) → refusal callChecks x ≡ o → refusal callChecks x ≡ none
+      go none q = q
+      go (some r) q = absurd (true≢false (ap isDone (e ∙ ap resultFor q)))
+
+  table-accepted : refusal callChecks x ≡ none → Accepted (x .table)
+  unfolding callChecks
+  table-accepted e = go (refusal checks (x .table)) refl
+    where
+      go : (o : Option Refusal) → refusal checks (x .table) ≡ o → refusal checks (x .table) ≡ none
+      go none q = q
+      go (some r) q = absurd (Option·some-ne-none r (sym (refusal-over-some (λ (y : Call). y .table) choiceChecks x checks q) ∙ e))
+
+  module _ (e : refusal choiceChecks x ≡ none) where
+    length-right : length (x .choice) ≡ programOf (x .table) .nodes
+    unfolding choiceChecks wrongLength
+    length-right =
+        eqb-true _ _
+        (not-false _ (not-applied (wrongLength x) (programOf (x .table) .nodes) (refusal-none x choiceChecks e (record { number = 9; place = λ y. cond (wrongLength y) (some (programOf (y .table) .nodes)) none }) (search in-list depth 40))))
+
+    none-outside : (n : ℕ) → n < programOf (x .table) .nodes → outside (x .table) (x .choice) n ≡ false
+    unfolding choiceChecks
+    none-outside =
+        earliest-passed (outside (x .table) (x .choice)) (programOf (x .table) .nodes)
+        (refusal-none x choiceChecks e (record { number = 9; place = λ y. earliest (outside (y .table) (y .choice)) (programOf (y .table) .nodes) }) (search in-list depth 40))
+
+    buffer-fits : entries (programOf (x .table)) ≤ x .buffer
+    unfolding choiceChecks tooShort
+    buffer-fits =
+        ltb-false _ _
+        (not-applied (tooShort x) (entries (programOf (x .table))) (refusal-none x choiceChecks e (record { number = 11; place = λ y. cond (tooShort y) (some (entries (programOf (y .table)))) none }) (search in-list depth 40)))
+
+-- a byte that is not outside its list
+byte-listed : (t choice : List ℕ) (n : ℕ) → outside t choice n ≡ false → ((eqb (programOf t .sort n) spawn && leb unmerged (choiceOf choice n) && leb (choiceOf choice n) unguarded) || (not (eqb (programOf t .sort n) spawn) && eqb (choiceOf choice n) 0)) ≡ true
+unfolding outside
+byte-listed t choice n e = not-false _ e
+
+module _ (t choice : List ℕ) (n : ℕ) (e : outside t choice n ≡ false) where
+  pub spawn-byte : programOf t .sort n ≡ spawn → (unmerged ≤ choiceOf choice n) × (choiceOf choice n ≤ unguarded)
+  spawn-byte s =
+      let a = eqb (programOf t .sort n) spawn in
+      let low = leb unmerged (choiceOf choice n) in
+      let high = leb (choiceOf choice n) unguarded in
+      let h : (low && high) ≡ true = spawn-side a low high (eqb (choiceOf choice n) 0) (eq-eqb _ _ s) (byte-listed t choice n e) in
+      (leb-true _ _ (and-true-left low high h), leb-true _ _ (and-true-right low high h))
+    where
+      spawn-side : (a b c d : Bool) → a ≡ true → ((a && b && c) || (not a && d)) ≡ true → (b && c) ≡ true
+      spawn-side true b c d q h = sym (or-false (b && c)) ∙ h
+      spawn-side false b c d q h = absurd (true≢false (sym q))
+
+  pub other-byte : (programOf t .sort n ≡ spawn → ⊥) → choiceOf choice n ≡ 0
+  other-byte s =
+      let a = eqb (programOf t .sort n) spawn in
+      eqb-true _ _ (other-side a (leb unmerged (choiceOf choice n)) (leb (choiceOf choice n) unguarded) (eqb (choiceOf choice n) 0) (ne-eqb _ _ s) (byte-listed t choice n e))
+    where
+      other-side : (a b c d : Bool) → a ≡ false → ((a && b && c) || (not a && d)) ≡ true → d ≡ true
+      other-side false b c d q h = h
+      other-side true b c d q h = absurd (true≢false q)
+
+pub done-valid : (x : Call) → done ≡ result x → Valid x
+done-valid x e =
+    let n = none-refused x e in
+    let a = table-accepted x n in
+    let c = sym (past-table x a) ∙ n in
+    record {
+      accepted-is = a;
+      one-byte = length-right x c;
+      choice-for = record {
+        others = λ m h s. other-byte (x .table) (x .choice) m (none-outside x c m h) s;
+        spawns = λ m h s. spawn-byte (x .table) (x .choice) m (none-outside x c m h) s;
+      };
+      fits = buffer-fits x c;
+    }

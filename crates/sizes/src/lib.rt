@@ -7,7 +7,14 @@ mod sums;
 mod targets;
 mod totals;
 
+use admit::admit;
+use find::find;
+use find::write_sizes;
 use table::Counts;
+ghost use mathlib.Core.Path.{_≡_};
+ghost use lib.ListN.{length};
+ghost use Rattle.sizes.specs.Call.{result, resultOf, Leaves};
+ghost use Rattle.sizes.specs.Known.{call};
 
 // What a call comes to: `resultOf` in specs/Call.antt says what each case stands for.
 pub enum Answer {
@@ -20,4 +27,26 @@ pub struct Known {
     pub of: Counts,
     pub synchronising: [u64; 8],
     pub reached: [u64; 8],
+}
+
+// Writes the sizes of a choice: for each function and then each node Total, Post, Pre, Through, unbounded as 65,536.
+pub fn sizes(t: &[u8], choice: &[u8], out: &mut [u32]) -> Answer
+    ensures { λ r. ⌜ resultOf r ≡ result (call (now (t .entry)) (now (choice .entry)) (length (now (out .entry)))) ⌝ }
+    ensures { λ r. ⌜ Leaves (now (t .entry)) (now (choice .entry)) (now (out .entry)) r (now (out .exit)) ⌝ }
+{
+    let admitted = admit(t, choice, out.len());
+    let known = admitted.known;
+    let answer = admitted.answer;
+    match answer {
+        Answer::Refused(number, place) => Answer::Refused(number, place),
+        Answer::Done => {
+            let mut after = [0u32; 512];
+            let mut before = [0u32; 512];
+            let mut passes: u32 = 0;
+            let found = find(t, choice, known, &mut after, &mut before, &mut passes);
+            let count = 4 * (known.of.functions + known.of.nodes);
+            write_sizes(found, count, out);
+            Answer::Done
+        }
+    }
 }

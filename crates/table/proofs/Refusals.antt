@@ -1,10 +1,16 @@
 -- Laws of a list of checks: one that does not apply is passed over, the first that does refuses, and nothing refuses what each passes.
 use mathlib.Core.Path.{_≡_, refl, sym, ap, _∙_}
+use mathlib.Core.Bool.{Bool, true, false, cond}
 use mathlib.Core.List.{List, [], _∷_, _++_, map, List·Memᴰ, List·Memᴰ·not-nil, List·Memᴰ·cases-cons}
 use mathlib.Core.Option.{Option, none, some, orElse, Option·some-ne-none}
 use mathlib.Core.Logic.{⊎-elim}
 use Prim.Native.Nat.{ℕ}
 use Rattle.table.specs.Refusal.{Check, Refusal, over, refusedAt, refusal}
+
+-- a row with one place, and its condition
+pub not-applied : (b : Bool) (p : ℕ) → cond b (some p) none ≡ none → b ≡ false
+not-applied true p e = absurd (Option·some-ne-none p e)
+not-applied false p e = refl
 
 module _ {X : Type 0} (x : X) where
   pub refusal-pass : (c : Check X) (cs : List (Check X)) → c .place x ≡ none → refusal (c ∷ cs) x ≡ refusal cs x

@@ -4,7 +4,6 @@ use mathlib.Core.Path.{_≡_, refl, sym, ap, _∙_, subst}
 use mathlib.Core.List.{List, List·Memᴰ, List·Memᴰ·head, List·Memᴰ·tail}
 use mathlib.Core.Bool.{Bool, true, false, true≢false, cond}
 use mathlib.Core.Logic.{_⊎_, inl, inr, ⊎-elim}
-use mathlib.Core.Option.{none, some, Option·some-ne-none}
 use native.Mathlib.Omega.{arith}
 use lib.Dec.{eqb, ltb}
 use borrow.Author.Tests.{eqb-true, ltb-true, ltb-false, lt-ltb, le-ltb}
@@ -12,13 +11,9 @@ use Rattle.table.specs.Below.{count}
 use Rattle.table.specs.Record.{records, kindOf, functions, nodes, edges}
 use Rattle.table.specs.Checks.{checks, Accepted, ofRecord, ofTable, broken, unlisted, outOfOrder, tooMany, noEntry, absent, foreign, notPlain}
 use Rattle.table.proofs.Below.{earliest-passed, count-same, count-sum, count-all, count-below}
-use Rattle.table.proofs.Refusals.{refusal-none}
+use Rattle.table.proofs.Refusals.{refusal-none, not-applied}
 
 ruleset in-list = (List·Memᴰ·head, List·Memᴰ·tail)
-
-not-applied : (b : Bool) (p : ℕ) → cond b (some p) none ≡ none → b ≡ false
-not-applied true p e = absurd (Option·some-ne-none p e)
-not-applied false p e = refl
 
 module _ (t : List ℕ) (ok : Accepted t) where
   -- a row of the list does not apply; where it stands in the list does not matter
