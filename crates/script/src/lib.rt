@@ -8,6 +8,11 @@
 //     3 0 0 1 0 4 1 1     the edges 0-1, 1-2, 2-3, 3-4
 //
 // `+ N` adds N bytes, a line that begins with `#` says nothing, and `= NAME` ends a table.
+//
+// A program that takes choices too finds them in lines `? LENGTH BUFFER B0 B1 ..` after that one, each for a run of its
+// own on the table: a choice of LENGTH bytes, 0 where none is given, and a sizes buffer of BUFFER numbers. Such as
+//
+//     ? 7 40 0 3 0 3      a choice of 7 bytes, 0 3 0 3 0 0 0, and a buffer of 40 numbers
 ghost use Prim.Native.Nat.{_+_, _-_, _≤_, min};
 ghost use lib.ListN.{length};
 
@@ -188,4 +193,24 @@ pub fn describe(text: &[u8], at: usize, t: &mut [u8]) -> Described
         len,
         next,
     }
+}
+
+// How many numbers the sizes buffer of a `?` line has.
+pub fn buffer(line: &[u8]) -> usize
+    ensures { λ r. ⌜ r ≤ 65535 ⌝ }
+{
+    number(line, 3)
+}
+
+// Writes the choice of a `?` line to the start of out, as far as it fits, and returns its length.
+pub fn choice(line: &[u8], out: &mut [u8]) -> usize
+    ensures { λ r. ⌜ r ≤ length (now (out .exit)) ⌝ }
+{
+    let len = least(number(line, 2), out.len());
+    let mut i: usize = 0;
+    while i < len {
+        out[i] = (number(line, i + 4) % 256) as u8;
+        i += 1;
+    }
+    len
 }
