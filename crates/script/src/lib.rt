@@ -14,10 +14,11 @@
 //
 //     ? 7 40 0 3 0 3      a choice of 7 bytes, 0 3 0 3 0 0 0, and a buffer of 40 numbers
 ghost use Prim.Native.Nat.{_+_, _-_, _≤_, min};
+ghost use mathlib.Core.Path.{_≡_};
 ghost use lib.ListN.{length};
 
 // The line that starts at `at`, without its line feed; empty past the end of the text.
-pub fn line(text: &[u8], at: usize) -> &[u8]
+fn line(text: &[u8], at: usize) -> &[u8]
     ensures { λ r. ⌜ length (now r) ≤ length (now (text .entry)) - at ⌝ }
 {
     let mut end: usize = at;
@@ -196,14 +197,12 @@ pub fn describe(text: &[u8], at: usize, t: &mut [u8]) -> Described
 }
 
 // How many numbers the sizes buffer of a `?` line has.
-pub fn buffer(line: &[u8]) -> usize
-    ensures { λ r. ⌜ r ≤ 65535 ⌝ }
-{
+fn buffer(line: &[u8]) -> usize {
     number(line, 3)
 }
 
 // Writes the choice of a `?` line to the start of out, as far as it fits, and returns its length.
-pub fn choice(line: &[u8], out: &mut [u8]) -> usize
+fn put_choice(out: &mut [u8], line: &[u8]) -> usize
     ensures { λ r. ⌜ r ≤ length (now (out .exit)) ⌝ }
 {
     let len = least(number(line, 2), out.len());
@@ -213,4 +212,70 @@ pub fn choice(line: &[u8], out: &mut [u8]) -> usize
         i += 1;
     }
     len
+}
+
+// A run that a text asks for: a table and a choice for it.
+pub struct Run {
+    // Whether there is one.
+    pub found: bool,
+    // Where the table's name stands in the text.
+    pub from: usize,
+    pub to: usize,
+    // The lengths of the table, the choice and the sizes buffer.
+    pub table: usize,
+    pub choice: usize,
+    pub buffer: usize,
+    // Where the text goes on.
+    pub next: usize,
+}
+
+// What stands before the first run: no table, at the start of the text.
+pub fn before_runs() -> Run
+    ensures { λ r. ⌜ (r .from ≡ 0) × (r .to ≡ 0) × (r .table ≡ 0) × (r .next ≡ 0) ⌝ }
+{
+    Run {
+        found: false,
+        from: 0,
+        to: 0,
+        table: 0,
+        choice: 0,
+        buffer: 0,
+        next: 0,
+    }
+}
+
+// The run after `last`: that of the next `?` line. Writes its choice to the start of choice, and a table that is described
+// before it to the start of t, which otherwise keeps the last run's.
+pub fn next_run(text: &[u8], last: Run, t: &mut [u8], choice: &mut [u8]) -> Run
+    requires { ⌜ (last .from ≤ last .to) × (last .to ≤ length (now text)) × (last .table ≤ length (now t)) ⌝ }
+    ensures { λ r. ⌜ (r .from ≤ r .to) × (r .to ≤ length (now (text .entry))) × (r .table ≤ length (now (t .exit))) ⌝ }
+    ensures { λ r. ⌜ r .choice ≤ length (now (choice .exit)) ⌝ }
+    ensures { λ r. ⌜ min (last .next + 1) (length (now (text .entry))) ≤ r .next ⌝ }
+{
+    let mut run = last;
+    while run.next < text.len() {
+        let at = run.next;
+        let mark = text[at];
+        let words = line(text, at);
+        let next = at + words.len() + 1;
+        if mark == b'?' {
+            run.found = true;
+            run.choice = put_choice(choice, words);
+            run.buffer = buffer(words);
+            run.next = next;
+            return run;
+        }
+        if (mark == b'#') | (mark == b'\n') {
+            run.next = next;
+        } else {
+            let table = describe(text, at, t);
+            run.from = table.from;
+            run.to = table.to;
+            run.table = table.len;
+            run.next = table.next;
+        }
+    }
+    run.found = false;
+    run.choice = 0;
+    run
 }

@@ -1,6 +1,7 @@
--- For the crates above: laws of the rules, and of sizes as numbers.
+-- For the crates above: laws of the rules, of sizes as numbers, and of calls.
 pub mod Laws
 pub mod Values
+pub mod Calls
 -- How the promises come about.
 mod Ahead
 mod Taking
@@ -12,6 +13,5 @@ mod Raising
 mod Rounds
 mod Closing
 mod Writing
-mod Calls
 mod Derived
 mod Solved

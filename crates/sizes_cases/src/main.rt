@@ -3,7 +3,6 @@ use libc::STDOUT_FILENO;
 use script::least;
 use sizes::Answer;
 use table::Checked;
-ghost use Prim.Native.Nat.{_≤_};
 ghost use mathlib.Core.Path.{_≡_};
 ghost use lib.ListN.{length};
 
@@ -89,42 +88,24 @@ fn show(name: &[u8], t: &[u8], choice: &[u8], out: &mut [u32]) {
     io::write_all(STDOUT_FILENO, b"\n");
 }
 
-// The run that a `?` line asks for.
-fn run_line(name: &[u8], t: &[u8], line: &[u8], choice: &mut [u8]) {
+// A run on a buffer of its own, of so many numbers.
+fn show_on(name: &[u8], t: &[u8], choice: &[u8], buffer: usize) {
     let mut out = old_buffer();
-    let len = script::choice(line, choice);
-    let room = least(script::buffer(line), 2400);
-    show(name, t, &choice[..len], &mut out[..room]);
-}
-
-// The runs of the `?` lines from `at` on, up to the line that begins the next table; returns where that is.
-fn run_lines(text: &[u8], at: usize, name: &[u8], t: &[u8], choice: &mut [u8]) -> usize
-    ensures { λ r. ⌜ at ≤ r ⌝ }
-{
-    let mut next: usize = at;
-    while next < text.len() {
-        let mark = text[next];
-        if (mark != b'?') & (mark != b'#') & (mark != b'\n') {
-            return next;
-        }
-        let line = script::line(text, next);
-        next = next + line.len() + 1;
-        if mark == b'?' {
-            run_line(name, t, line, choice);
-        }
-    }
-    next
+    let room = least(buffer, 2400);
+    show(name, t, choice, &mut out[..room]);
 }
 
 fn run(text: &[u8], t: &mut [u8], choice: &mut [u8]) {
-    let mut at: usize = 0;
-    while at < text.len() {
-        let table = script::describe(text, at, t);
-        let from = table.from;
-        let to = table.to;
-        let len = table.len;
-        let next = table.next;
-        at = run_lines(text, next, &text[from..to], &t[..len], choice);
+    let mut at = script::before_runs();
+    while at.next < text.len() {
+        at = script::next_run(text, at, t, choice);
+        let from = at.from;
+        let to = at.to;
+        let table = at.table;
+        let chosen = at.choice;
+        if at.found {
+            show_on(&text[from..to], &t[..table], &choice[..chosen], at.buffer);
+        }
     }
 }
 

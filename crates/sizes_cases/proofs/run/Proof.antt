@@ -1,4 +1,4 @@
-use Prim.Native.Nat.{_-_}
+use Prim.Native.Nat.{_-_, _≤_}
 use native.Mathlib.Omega.{arith}
 use mathlib.Core.Path.{_≡_}
 use lib.ListN.{length, length-take}
@@ -7,40 +7,55 @@ use Rattle.sizes_cases.proofs.run.Statement.{statement}
 use Rattle.sizes_cases.proofs.run.Tie as tie
 
 abbrev Inv-loop : tie.InvT-loop
-Inv-loop text t₀ choice₀ at₀ t choice at = (length t ≡ length t₀) × (length choice ≡ length choice₀)
+Inv-loop text t₀ choice₀ at₀ t choice at = (length t ≡ length t₀) × (length choice ≡ length choice₀) × (at .from ≤ at .to) × (at .to ≤ length text) × (at .table ≤ length t)
 
 abbrev μ-loop : tie.MeasureT-loop
-μ-loop text t₀ choice₀ at₀ t choice at = length text - at
+μ-loop text t₀ choice₀ at₀ t choice at = length text - at .next
+
+before-runs-requires : tie.Need-before-runs-requires Inv-loop μ-loop
+before-runs-requires c κs = search needs
 
 loop-holds : tie.Need-loop-holds Inv-loop μ-loop
 loop-holds c = search needs
 
-describe-requires : tie.Need-describe-requires Inv-loop μ-loop
-describe-requires c κs = search needs
+next-run-requires : tie.Need-next-run-requires Inv-loop μ-loop
+next-run-requires c κs = search needs
 
-sub-run-lines : tie.Need-sub-run-lines Inv-loop μ-loop
-sub-run-lines c = search needs
+sub-show-on : tie.Need-sub-show-on Inv-loop μ-loop
+sub-show-on c = search needs
 
-part-run-lines-start : tie.Need-part-run-lines-start Inv-loop μ-loop
-part-run-lines-start c = search needs
+part-show-on-start : tie.Need-part-show-on-start Inv-loop μ-loop
+part-show-on-start c = search needs
 
-part-run-lines-end : tie.Need-part-run-lines-end Inv-loop μ-loop
-part-run-lines-end c = search needs
+part-show-on-end : tie.Need-part-show-on-end Inv-loop μ-loop
+part-show-on-end c = search needs
 
-slice-reshare-prefix-run-lines : tie.Need-slice-reshare-prefix-run-lines Inv-loop μ-loop
-slice-reshare-prefix-run-lines c = search needs
+slice-reshare-prefix-show-on : tie.Need-slice-reshare-prefix-show-on Inv-loop μ-loop
+slice-reshare-prefix-show-on c = search needs
 
-slice-aggregate-run-lines : tie.Need-slice-aggregate-run-lines Inv-loop μ-loop
-slice-aggregate-run-lines c = simp length-take (omega arith)
+slice-aggregate-show-on : tie.Need-slice-aggregate-show-on Inv-loop μ-loop
+slice-aggregate-show-on c = simp length-take (omega arith)
 
-run-lines-requires : tie.Need-run-lines-requires Inv-loop μ-loop
-run-lines-requires c κs = search needs
+slice-reshare-prefix-show-on-2 : tie.Need-slice-reshare-prefix-show-on-2 Inv-loop μ-loop
+slice-reshare-prefix-show-on-2 c = search needs
+
+slice-aggregate-show-on-2 : tie.Need-slice-aggregate-show-on-2 Inv-loop μ-loop
+slice-aggregate-show-on-2 c = simp length-take (omega arith)
+
+show-on-requires : tie.Need-show-on-requires Inv-loop μ-loop
+show-on-requires c κs = search needs
 
 loop-less : tie.Need-loop-less Inv-loop μ-loop
 loop-less c = search needs
 
 loop-again : tie.Need-loop-again Inv-loop μ-loop
 loop-again c = search needs
+
+loop-less-2 : tie.Need-loop-less-2 Inv-loop μ-loop
+loop-less-2 c = search needs
+
+loop-again-2 : tie.Need-loop-again-2 Inv-loop μ-loop
+loop-again-2 c = search needs
 
 same-length : tie.Need-same-length Inv-loop μ-loop
 same-length c = search needs
@@ -57,16 +72,21 @@ run-spec =
     (tie.spec
     Inv-loop
     μ-loop
+    before-runs-requires
     loop-holds
-    describe-requires
-    sub-run-lines
-    part-run-lines-start
-    part-run-lines-end
-    slice-reshare-prefix-run-lines
-    slice-aggregate-run-lines
-    run-lines-requires
+    next-run-requires
+    sub-show-on
+    part-show-on-start
+    part-show-on-end
+    slice-reshare-prefix-show-on
+    slice-aggregate-show-on
+    slice-reshare-prefix-show-on-2
+    slice-aggregate-show-on-2
+    show-on-requires
     loop-less
     loop-again
+    loop-less-2
+    loop-again-2
     same-length
     same-length-2
     returns)

@@ -2,14 +2,14 @@ use Prim.Native.Nat.{_-_, _≤_}
 use mathlib.Core.Path.{_≡_}
 use lib.ListN.{length}
 use borrow.Author.Needs.{needs}
-use Rattle.script.proofs.choice.Statement.{statement}
-use Rattle.script.proofs.choice.Tie as tie
+use Rattle.script.proofs.put_choice.Statement.{statement}
+use Rattle.script.proofs.put_choice.Tie as tie
 
 abbrev Inv-loop : tie.InvT-loop
-Inv-loop line out₀ len i₀ out i = (length out ≡ length out₀) × (len ≤ length out) × (len ≤ 65535)
+Inv-loop out₀ line len i₀ out i = (length out ≡ length out₀) × (len ≤ length out) × (len ≤ 65535)
 
 abbrev μ-loop : tie.MeasureT-loop
-μ-loop line out₀ len i₀ out i = len - i
+μ-loop out₀ line len i₀ out i = len - i
 
 number-requires : tie.Need-number-requires Inv-loop μ-loop
 number-requires c κs = search needs
@@ -47,8 +47,8 @@ same-length c = search needs
 returns : tie.Need-returns Inv-loop μ-loop
 returns c = search needs
 
-pub choice-spec : {M : Type 1} → statement M
-choice-spec =
+pub put-choice-spec : {M : Type 1} → statement M
+put-choice-spec =
     tie.close
     (tie.spec
     Inv-loop
