@@ -2,7 +2,7 @@
 use Prim.Native.Nat.{ℕ, zero, suc, _+_, _-_, _*_, _/_, _%_, _<_, _≤_}
 use mathlib.Core.Path.{_≡_, refl, sym, ap, ap₂, _∙_, subst}
 use mathlib.Core.Bool.{true}
-use mathlib.Core.List.{List}
+use mathlib.Core.List.{List, []}
 use native.Mathlib.Omega.{arith}
 use lib.ListN.{length, replicate, length-replicate}
 use Rattle.table.specs.Record.{edgeFrom, edgeTo}
@@ -17,12 +17,12 @@ use Rattle.sizes.specs.Sums.{LargestAfter, LargestBefore}
 use Rattle.sizes.specs.System.{Entry, size, along, turn, steps, takes, Form, stepForm, totalEdgeForm, targetForm, Solved, formOf, gives, start, step-on, end, total-node, total-edge, target-of}
 use Rattle.sizes.specs.Causes.{Given, RuleOf, at}
 use Rattle.sizes.specs.Passes.{Values, sums, valueAt, room, roomOf, State, Passed}
-use Rattle.sizes.specs.Known.{given, AllHeld}
+use Rattle.sizes.specs.Known.{given, edgeAt, AllHeld}
 use Rattle.sizes.specs.declared.Known.{Known}
 use Rattle.sizes.specs.declared.sums.Sum.{Sum}
 use Rattle.sizes.specs.declared.sums.Sum.the-variants.{After, Before, Through}
 use Rattle.sizes.proofs.Rises.{zeros-ok}
-use Rattle.sizes.proofs.Along.{turn-low}
+use Rattle.sizes.proofs.Along.{turn-low, pick-none}
 use Rattle.sizes.proofs.Solved.{solved-least, solved-after, solved-before}
 
 -- every edge has its turn
@@ -43,10 +43,10 @@ module _ (t choice : List ℕ) (known : Known) (ready : Ready t (known .of)) (v 
       let k = known .of .edges in
       let low : x .0 < k = omega (arith, ready .counts-are .edges-are, x .1) in
       let i = turn s k (x .0) in
-      let back = turn-back s k (x .0) low in
-      let from : edgeFrom t (turn s k i) ≡ p = ap (edgeFrom t) back ∙ x .2 in
-      let to : edgeTo t (turn s k i) ≡ n = ap (edgeTo t) back ∙ x .3 in
-      holds (stepForm (programOf t) s (edgeFrom t (turn s k i)) (edgeTo t (turn s k i))) (stepForm (programOf t) s p n) (ap₂ (stepForm (programOf t) s) from to)
+      let back : edgeAt known [] s i ≡ x .0 = pick-none k (turn s k i) ∙ turn-back s k (x .0) low in
+      let from : edgeFrom t (edgeAt known [] s i) ≡ p = ap (edgeFrom t) back ∙ x .2 in
+      let to : edgeTo t (edgeAt known [] s i) ≡ n = ap (edgeTo t) back ∙ x .3 in
+      holds (stepForm (programOf t) s (edgeFrom t (edgeAt known [] s i)) (edgeTo t (edgeAt known [] s i))) (stepForm (programOf t) s p n) (ap₂ (stepForm (programOf t) s) from to)
       (held .sums-held s .step-held .held i (turn-low s k (x .0) low) (ap₂ (steps (member (known .synchronising)) (member (known .reached)) s) from to ∙ b))
   all-closed (end s f h b) = held .functions-held .end-held s .held f (omega (arith, functions-are t (known .of) ready)) b
   all-closed (total-node n h) = held .functions-held .total-node-held .held n (omega (arith, nodes-are t (known .of) ready)) refl

@@ -2,7 +2,7 @@
 use Prim.Native.Nat.{ℕ, _+_, _*_, _<_, _≤_}
 use mathlib.Core.Path.{_≡_, refl, sym, ap, _∙_, subst}
 use mathlib.Core.Bool.{true}
-use mathlib.Core.List.{List}
+use mathlib.Core.List.{List, []}
 use native.Mathlib.Omega.{arith}
 use Rattle.table.specs.Program.{programOf}
 use Rattle.sync.specs.Words.{member}
@@ -48,13 +48,33 @@ put-twice After a b v = refl
 put-twice Before a b v = refl
 put-twice Through a b v = refl
 
-pub sums-passed : (t choice : List ℕ) (known : Known) (s : Sum) {sizes from : List ℕ} {k : List ℕ} {c : ℕ} (a : List ℕ) {k₁ : List ℕ} {c₁ : ℕ} (b : List ℕ) {k₂ : List ℕ} {c₂ : ℕ} → Pass (given t choice known) (Summed s sizes from) (putSums s) (Held (starts (programOf t) s) (startForm (programOf t) s) (known .of .nodes)) k c a k₁ c₁ → Pass (given t choice known) (Summed s sizes a) (putSums s) (Held (stepOn t known s) (stepOf t known s) (known .of .edges)) k₁ c₁ b k₂ c₂ → Pass (given t choice known) (Summed s sizes from) (putSums s) (SumsHeld t known s) k c b k₂ c₂
-sums-passed t choice known s {sizes = sizes} {k = k} {c = c} a {k₁ = k₁} {c₁ = c₁} b {k₂ = k₂} {c₂ = c₂} p q = record { pass = λ v h st. one v (summed-put a v h) (p .pass v h st) }
-  where
-    one : (v : Values) → Summed s sizes a (putSums s a v) → Passed (given t choice known) (Held (starts (programOf t) s) (startForm (programOf t) s) (known .of .nodes) v) v k c (putSums s a v) k₁ c₁ → Passed (given t choice known) (SumsHeld t known s v) v k c (putSums s b v) k₂ c₂
-    one v h x =
-        passed-so (λ y. record { start-held = y .0; step-held = y .1 })
-        (passed-then (Held (stepOn t known s) (stepOf t known s) (known .of .edges)) x (rw (put-twice s a b v) at (q .pass (putSums s a v) h (x .state))))
+module _ (t choice : List ℕ) (known : Known) (s : Sum) {sizes from k : List ℕ} {c : ℕ} (a : List ℕ) {k₁ : List ℕ} {c₁ : ℕ} (p : Pass (given t choice known) (Summed s sizes from) (putSums s) (Held (starts (programOf t) s) (startForm (programOf t) s) (known .of .nodes)) k c a k₁ c₁) where
+  -- the edges, in an order or in their own
+  module _ (order b : List ℕ) {k₂ : List ℕ} {c₂ : ℕ} (q : Pass (given t choice known) (Summed s sizes a) (putSums s) (Held (stepOn t known order s) (stepOf t known order s) (known .of .edges)) k₁ c₁ b k₂ c₂) where
+    both-passed : (v : Values) → Summed s sizes from v → State (given t choice known) v k → Passed (given t choice known) (Held (starts (programOf t) s) (startForm (programOf t) s) (known .of .nodes) v × Held (stepOn t known order s) (stepOf t known order s) (known .of .edges) v) v k c (putSums s b v) k₂ c₂
+    both-passed v h st =
+        let x = p .pass v h st in
+        passed-then (Held (stepOn t known order s) (stepOf t known order s) (known .of .edges)) x
+        (rw (put-twice s a b v) at (q .pass (putSums s a v) (summed-put a v h) (x .state)))
+
+    -- something rose, so nothing has to be shown
+    pub sums-risen : (c₂ ≡ c₁ → ⊥) → Pass (given t choice known) (Summed s sizes from) (putSums s) (SumsHeld t known s) k c b k₂ c₂
+    sums-risen n = record { pass = λ v h st. risen v (p .pass v h st) (q .pass (putSums s a v) (summed-put a v h) (p .pass v h st .state)) (both-passed v h st) }
+      where
+        risen : (v : Values) {P Q : Type 0} → Passed (given t choice known) P v k c (putSums s a v) k₁ c₁ → Passed (given t choice known) Q (putSums s a v) k₁ c₁ (putSums s b (putSums s a v)) k₂ c₂ → Passed (given t choice known) (Held (starts (programOf t) s) (startForm (programOf t) s) (known .of .nodes) v × Held (stepOn t known order s) (stepOf t known order s) (known .of .edges) v) v k c (putSums s b v) k₂ c₂ → Passed (given t choice known) (SumsHeld t known s v) v k c (putSums s b v) k₂ c₂
+        risen v x y z = record { state = z .state; ticks = z .ticks; later = z .later; quiet = λ e. absurd (n (omega (arith, x .later, y .later))) }
+
+    pub can-again : Can (given t choice known) (Summed s sizes from) k c → Can (given t choice known) (Summed s sizes b) k₂ c₂
+    can-again can = can-after (can .bound) (both-passed (can .values) (can .fits) (can .state)) (summed-put b (can .values) (can .fits))
+
+    -- nothing rose, and the edges in their own order raise nothing either
+    pub sums-passed : (d : List ℕ) {k₃ : List ℕ} {c₃ : ℕ} → Pass (given t choice known) (Summed s sizes b) (putSums s) (Held (stepOn t known [] s) (stepOf t known [] s) (known .of .edges)) k₂ c₂ d k₃ c₃ → Pass (given t choice known) (Summed s sizes from) (putSums s) (SumsHeld t known s) k c d k₃ c₃
+    sums-passed d {k₃} {c₃} r = record { pass = λ v h st. one v (summed-put b v h) (both-passed v h st) }
+      where
+        one : (v : Values) → Summed s sizes b (putSums s b v) → Passed (given t choice known) (Held (starts (programOf t) s) (startForm (programOf t) s) (known .of .nodes) v × Held (stepOn t known order s) (stepOf t known order s) (known .of .edges) v) v k c (putSums s b v) k₂ c₂ → Passed (given t choice known) (SumsHeld t known s v) v k c (putSums s d v) k₃ c₃
+        one v h x =
+            passed-so (λ y. record { start-held = y .0 .0; step-held = y .1 })
+            (passed-then (Held (stepOn t known [] s) (stepOf t known [] s) (known .of .edges)) x (rw (put-twice s b d v) at (r .pass (putSums s b v) h (x .state))))
 
 -- ---- the sizes of functions
 

@@ -1,14 +1,14 @@
 -- What the system rests on, and its rules by number, from what the code is given. Helps proofs only.
 use Prim.Native.Nat.{ℕ, _*_, _/_, _%_}
 use mathlib.Core.Bool.{Bool, true}
-use mathlib.Core.List.{List, map}
+use mathlib.Core.List.{List, [], map}
 use Rattle.table.specs.Record.{edgeFrom, edgeTo}
 use Rattle.table.specs.Answer.{Ready}
 use Rattle.table.specs.Program.{programOf}
 use Rattle.sync.specs.Words.{member}
 use Rattle.sync.specs.Answer.{Sets}
 use Rattle.sizes.specs.Size.{valueOf}
-use Rattle.sizes.specs.System.{Form, starts, steps, turn, ends, takes, startForm, stepForm, endForm, totalNodeForm, totalEdgeForm, targetForm}
+use Rattle.sizes.specs.System.{Form, starts, steps, turn, pick, ends, takes, startForm, stepForm, endForm, totalNodeForm, totalEdgeForm, targetForm}
 use Rattle.sizes.specs.Causes.{Given, at}
 use Rattle.sizes.specs.Passes.{Values, Held}
 use Rattle.sizes.specs.Call.{Call}
@@ -34,11 +34,14 @@ abbrev pub valuesOf : List Size → List Size → List Size → List Size → Va
 valuesOf sizes after before through = record { sizes = map valueOf sizes; after = map valueOf after; before = map valueOf before; through = map valueOf through }
 
 -- the rules of the edges: of a sum, in the order in which they are gone over, and of Total
-abbrev pub stepOn : List ℕ → Known → Sum → ℕ → Bool
-stepOn t known s i = steps (member (known .synchronising)) (member (known .reached)) s (edgeFrom t (turn s (known .of .edges) i)) (edgeTo t (turn s (known .of .edges) i))
+abbrev pub edgeAt : Known → List ℕ → Sum → ℕ → ℕ
+edgeAt known order s i = pick order (known .of .edges) (turn s (known .of .edges) i)
 
-abbrev pub stepOf : List ℕ → Known → Sum → ℕ → Form
-stepOf t known s i = stepForm (programOf t) s (edgeFrom t (turn s (known .of .edges) i)) (edgeTo t (turn s (known .of .edges) i))
+abbrev pub stepOn : List ℕ → Known → List ℕ → Sum → ℕ → Bool
+stepOn t known order s i = steps (member (known .synchronising)) (member (known .reached)) s (edgeFrom t (edgeAt known order s i)) (edgeTo t (edgeAt known order s i))
+
+abbrev pub stepOf : List ℕ → Known → List ℕ → Sum → ℕ → Form
+stepOf t known order s i = stepForm (programOf t) s (edgeFrom t (edgeAt known order s i)) (edgeTo t (edgeAt known order s i))
 
 abbrev pub totalEdgeOf : List ℕ → ℕ → Form
 totalEdgeOf t e = totalEdgeForm (programOf t) (edgeFrom t e) (edgeTo t e)
@@ -53,7 +56,7 @@ targetAt t j = targetForm (programOf t) (j / 4) (j % 4)
 -- The rules that raise a sum of nodes hold at v;
 pub record SumsHeld (t : List ℕ) (known : Known) (s : Sum) (v : Values) : Type 0 where
   pub start-held : Held (starts (programOf t) s) (startForm (programOf t) s) (known .of .nodes) v
-  pub step-held : Held (stepOn t known s) (stepOf t known s) (known .of .edges) v
+  pub step-held : Held (stepOn t known [] s) (stepOf t known [] s) (known .of .edges) v
 
 -- those that raise a size of a function;
 pub record FunctionsHeld (t : List ℕ) (known : Known) (v : Values) : Type 0 where

@@ -3,7 +3,8 @@ use Prim.Native.Nat.{ℕ, _+_, _-_, _*_, _<_, _≤_}
 use mathlib.Core.Path.{_≡_}
 use mathlib.Core.List.{List, [], _∷_}
 use mathlib.Core.Bool.{Bool, true, cond, not, _&&_, _||_}
-use lib.Dec.{eqb, leb}
+use lib.Dec.{eqb, leb, ltb}
+use lib.ListN.{getD}
 use Rattle.table.specs.Record.{call, spawn}
 use Rattle.table.specs.Program.{Program}
 use Rattle.sizes.specs.Size.{cap}
@@ -63,6 +64,10 @@ abbrev pub turn : Sum → ℕ → ℕ → ℕ
 turn After k i = i
 turn Before k i = k - (i + 1)
 turn Through k i = i
+
+-- (where an order is given, edge i of it; an order is a hint, and what it does not say stays in place)
+unfoldable pub pick : List ℕ → ℕ → ℕ → ℕ
+pick order k i = cond (ltb (getD order i k) k) (getD order i k) i
 
 -- and at one node of function f it is done, if it gets there; the frame may be due besides.
 abbrev pub ending : Program → Sum → ℕ → ℕ

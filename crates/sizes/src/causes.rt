@@ -9,13 +9,13 @@ ghost use lib.ListN.{length};
 ghost use Rattle.sizes.specs.Size.{valueOf};
 ghost use Rattle.sizes.specs.Causes.{at, Chain, Raised};
 
-fn wide(x: u16) -> usize
+pub(crate) fn wide(x: u16) -> usize
     ensures { λ r. ⌜ r ≡ x ⌝ }
 {
     x as usize
 }
 
-fn narrow(x: usize) -> u16
+pub(crate) fn narrow(x: usize) -> u16
     requires { ⌜ x < 65536 ⌝ }
     ensures { λ r. ⌜ r ≡ x ⌝ }
 {
@@ -43,11 +43,15 @@ fn leads(causes: &[u16], from: usize, to: usize) -> bool
     false
 }
 
-// Whether y or z rose because of x.
-fn caused(causes: &[u16], x: usize, y: usize, z: usize) -> bool
+// Whether y or z rose because of x, which has `old`. What has not risen yet is taken to have caused nothing: it is found
+// when it rises again, and long lines are not walked for nothing.
+fn caused(causes: &[u16], x: usize, old: u32, y: usize, z: usize) -> bool
     requires { ⌜ length (now causes) ≡ 3840 ⌝ }
     ensures { λ r. ⌜ (r ≡ true → Chain (at (now (causes .entry))) x y ⊎ Chain (at (now (causes .entry))) x z) ⌝ }
 {
+    if old == 0 {
+        return false;
+    }
     if leads(causes, y, x) {
         return true;
     }
@@ -77,12 +81,13 @@ pub(crate) fn raised(
     requires { ⌜ (x < 3840) × (y < 3840) × (z < 3840) ⌝ }
     ensures { λ r. ⌜ Raised (now (causes .entry)) x (valueOf old) y z (valueOf sum) (now (clock .entry)) (now (causes .exit)) (valueOf r) (now (clock .exit)) ⌝ }
 {
-    if sum.number() <= old.number() {
+    let low = old.number();
+    if sum.number() <= low {
         return old;
     }
     let tick = *clock + 1;
     *clock = tick;
-    if caused(causes, x, y, z) {
+    if caused(causes, x, low, y, z) {
         causes[x] = 65535;
         return Size::Unbounded;
     }

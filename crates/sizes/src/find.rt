@@ -1,5 +1,6 @@
 // The least sizes of a choice: passes over all rules, until one raises nothing.
 use crate::Known;
+use crate::order::order_edges;
 use crate::size::Size;
 use crate::sums::Sum;
 use crate::sums::raise_sums;
@@ -61,6 +62,7 @@ fn solve(
     t: &[u8],
     choice: &[u8],
     known: Known,
+    order: &[u16],
     causes: &mut [u16],
     stamps: &mut [u32],
     afters: &mut [u32],
@@ -86,6 +88,7 @@ fn solve(
             t,
             choice,
             known,
+            order,
             Sum::After,
             taken,
             after,
@@ -97,6 +100,7 @@ fn solve(
             t,
             choice,
             known,
+            order,
             Sum::Before,
             taken,
             before,
@@ -108,6 +112,7 @@ fn solve(
             t,
             choice,
             known,
+            order,
             Sum::Through,
             taken,
             through,
@@ -145,10 +150,13 @@ pub fn find(
 {
     let mut causes = [65535u16; 3840];
     let mut stamps = [0u32; 3840];
+    let mut order = [0u16; 1024];
+    order_edges(t, known.of, &mut order);
     solve(
         t,
         choice,
         known,
+        &order,
         &mut causes,
         &mut stamps,
         after,

@@ -2,6 +2,7 @@
 pub mod admit;
 mod causes;
 pub mod find;
+mod order;
 pub mod size;
 mod sums;
 mod targets;

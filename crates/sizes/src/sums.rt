@@ -1,6 +1,7 @@
 // Sums along open paths, kept for each node.
 use crate::Known;
 use crate::causes::raised;
+use crate::causes::wide;
 use crate::size::Size;
 use crate::totals::frame_size;
 use sync::words::has;
@@ -14,7 +15,7 @@ ghost use Rattle.table.specs.Answer.{Ready};
 ghost use Rattle.table.specs.Program.{programOf};
 ghost use Rattle.sync.specs.Words.{member};
 ghost use Rattle.sizes.specs.Size.{valueOf};
-ghost use Rattle.sizes.specs.System.{kindFor, starts, from, to, steps, turn, ending, ends, due, startForm, endForm};
+ghost use Rattle.sizes.specs.System.{kindFor, starts, from, to, steps, turn, pick, ending, ends, due, startForm, endForm};
 ghost use Rattle.sizes.specs.Causes.{offset};
 ghost use Rattle.sizes.specs.Passes.{Summed, putSums, putSizes, Held, Pass, Can};
 ghost use Rattle.sizes.specs.Known.{given, stepOn, stepOf, SumsHeld};
@@ -154,11 +155,24 @@ fn turned(s: Sum, k: usize, i: usize) -> usize
     }
 }
 
-// Raises the sums of nodes along the edges.
-pub(crate) fn step(
+// The i-th of k edges in the order given, and edge i where it gives none.
+fn picked(order: &[u16], k: usize, i: usize) -> usize
+    requires { ⌜ i < k ⌝ }
+    ensures { λ r. ⌜ (r ≡ pick (now (order .entry)) k i) × (r < k) ⌝ }
+{
+    if order.len() <= i {
+        return i;
+    }
+    let e = wide(order[i]);
+    if e < k { e } else { i }
+}
+
+// Raises the sums of nodes along the edges, in the order given.
+fn step(
     t: &[u8],
     choice: &[u8],
     known: Known,
+    order: &[u16],
     s: Sum,
     sizes: [Size; 2304],
     from: [Size; 512],
@@ -168,13 +182,13 @@ pub(crate) fn step(
 ) -> [Size; 512]
     requires { ⌜ Ready (now t) (known .of) × (length (now stamps) ≡ 3840) ⌝ }
     requires { ⌜ Can (given (now t) (now choice) known) (Summed s (map valueOf sizes) (map valueOf from)) (now causes) (now clock) ⌝ }
-    ensures { λ r. ⌜ Pass (given (now (t .entry)) (now (choice .entry)) known) (Summed s (map valueOf sizes) (map valueOf from)) (putSums s) (Held (stepOn (now (t .entry)) known s) (stepOf (now (t .entry)) known s) (known .of .edges)) (now (causes .entry)) (now (clock .entry)) (map valueOf r) (now (causes .exit)) (now (clock .exit)) ⌝ }
+    ensures { λ r. ⌜ Pass (given (now (t .entry)) (now (choice .entry)) known) (Summed s (map valueOf sizes) (map valueOf from)) (putSums s) (Held (stepOn (now (t .entry)) known (now (order .entry)) s) (stepOf (now (t .entry)) known (now (order .entry)) s) (known .of .edges)) (now (causes .entry)) (now (clock .entry)) (map valueOf r) (now (causes .exit)) (now (clock .exit)) ⌝ }
 {
     let mut sums = from;
     let mut i: usize = 0;
     while i < known.of.edges {
         let of = known.of;
-        let e = turned(s, of.edges, i);
+        let e = picked(order, of.edges, turned(s, of.edges, i));
         let p = program::edge_from(t, of, e);
         let n = program::edge_to(t, of, e);
         i += 1;
@@ -270,11 +284,12 @@ pub(crate) fn end(
     sizes
 }
 
-// Raises a sum of all nodes.
+// Raises a sum of all nodes. Where the order raises nothing, the edges in their own order show that nothing is left out.
 pub(crate) fn raise_sums(
     t: &[u8],
     choice: &[u8],
     known: Known,
+    order: &[u16],
     s: Sum,
     sizes: [Size; 2304],
     from: [Size; 512],
@@ -287,5 +302,32 @@ pub(crate) fn raise_sums(
     ensures { λ r. ⌜ Pass (given (now (t .entry)) (now (choice .entry)) known) (Summed s (map valueOf sizes) (map valueOf from)) (putSums s) (SumsHeld (now (t .entry)) known s) (now (causes .entry)) (now (clock .entry)) (map valueOf r) (now (causes .exit)) (now (clock .exit)) ⌝ }
 {
     let started = start(t, choice, known, s, sizes, from, causes, stamps, clock);
-    step(t, choice, known, s, sizes, started, causes, stamps, clock)
+    let before = *clock;
+    let stepped = step(
+        t,
+        choice,
+        known,
+        order,
+        s,
+        sizes,
+        started,
+        causes,
+        stamps,
+        clock,
+    );
+    if *clock != before {
+        return stepped;
+    }
+    step(
+        t,
+        choice,
+        known,
+        &order[..0],
+        s,
+        sizes,
+        stepped,
+        causes,
+        stamps,
+        clock,
+    )
 }

@@ -26,6 +26,11 @@ fn number(t: &[u8], r: usize, k: usize) -> usize
     requires { ⌜ k < 7 ⌝ }
     ensures { λ x. ⌜ (x ≡ numberOf (now (t .entry)) r k) × (x < 65536) ⌝ }
 {
+    // a whole record has both bytes
+    if r < t.len() / 8 {
+        let at = r * 8 + k;
+        return wide(t[at]) + 256 * wide(t[at + 1]);
+    }
     wide(byte(t, r, k)) + 256 * wide(byte(t, r, k + 1))
 }
 

@@ -5,14 +5,23 @@ use borrow.Author.Needs.{needs}
 use Rattle.sizes.proofs.find.find.Statement.{statement}
 use Rattle.sizes.proofs.find.find.Tie as tie
 
+slice-aggregate-order-edges : tie.Need-slice-aggregate-order-edges
+slice-aggregate-order-edges c = search needs
+
+order-edges-requires : tie.Need-order-edges-requires
+order-edges-requires c κs = search needs
+
 slice-aggregate-solve : tie.Need-slice-aggregate-solve
 slice-aggregate-solve c = search needs
 
 slice-aggregate-solve-2 : tie.Need-slice-aggregate-solve-2
 slice-aggregate-solve-2 c = search needs
 
+slice-aggregate-solve-3 : tie.Need-slice-aggregate-solve-3
+slice-aggregate-solve-3 c = search needs
+
 solve-requires : tie.Need-solve-requires
-solve-requires c κs = (c .before .before .before .before .before .before .before .before .before .pre .0, ((refl, length-replicate {A = ℕ} 3840 0), c .before .before .before .before .before .before .before .before .before .pre .1))
+solve-requires c κs = (c .before .before .before .before .before .before .before .before .before .before .before .before .before .pre .0, ((refl, length-replicate {A = ℕ} 3840 0), c .before .before .before .before .before .before .before .before .before .before .before .before .before .pre .1))
 
 same-length : tie.Need-same-length
 same-length c = search needs
@@ -27,8 +36,11 @@ pub find-spec : {M : Type 1} → statement M
 find-spec =
     tie.close
     (tie.spec
+    slice-aggregate-order-edges
+    order-edges-requires
     slice-aggregate-solve
     slice-aggregate-solve-2
+    slice-aggregate-solve-3
     solve-requires
     same-length
     same-length-2

@@ -3,7 +3,7 @@ use Prim.Native.Nat.{_+_, _-_, _*_}
 use mathlib.Core.Path.{refl, sym, ap, ap₂, _∙_}
 use Rattle.table.specs.Record.{edgeFrom, edgeTo}
 use Rattle.sync.specs.Words.{member}
-use Rattle.sizes.specs.System.{from, to, steps}
+use Rattle.sizes.specs.System.{from, to, steps, pick}
 use Rattle.sizes.specs.Passes.{Summed, putSums}
 use Rattle.sizes.specs.Known.{given, stepOn, stepOf}
 use Rattle.sizes.proofs.Passes.{Going, going-first, going-on, going-off, going-last, sums-none}
@@ -19,19 +19,22 @@ use Rattle.sizes.proofs.sums.step.Statement.{statement}
 use Rattle.sizes.proofs.sums.step.Tie as tie
 
 abbrev Inv-loop : tie.InvT-loop
-Inv-loop t choice known s causes₀ stamps₀ clock₀ sizes sums₀ i₀ causes stamps clock sums i = Going (given t choice known) (known .of) (Summed s (map valueOf sizes) (map valueOf sums₀)) (putSums s) (stepOn t known s) (stepOf t known s) (known .of .edges) i causes₀ clock₀ (map valueOf sums) causes clock stamps
+Inv-loop t choice known order s causes₀ stamps₀ clock₀ sizes sums₀ i₀ causes stamps clock sums i = Going (given t choice known) (known .of) (Summed s (map valueOf sizes) (map valueOf sums₀)) (putSums s) (stepOn t known order s) (stepOf t known order s) (known .of .edges) i causes₀ clock₀ (map valueOf sums) causes clock stamps
 
 abbrev μ-loop : tie.MeasureT-loop
-μ-loop t choice known s causes₀ stamps₀ clock₀ sizes sums₀ i₀ causes stamps clock sums i = known .of .edges - i
+μ-loop t choice known order s causes₀ stamps₀ clock₀ sizes sums₀ i₀ causes stamps clock sums i = known .of .edges - i
 
 loop-holds : tie.Need-loop-holds Inv-loop μ-loop
 loop-holds c =
-    let a = c .before .before .before .before .args in
-    let p = c .before .before .before .before .pre in
+    let a = c .before .before .before .before .before .args in
+    let p = c .before .before .before .before .before .pre in
     going-first (a .t .now) (p .0 .0) (p .0 .1) (p .1) (sums-none _ _ _)
 
 turned-requires : tie.Need-turned-requires Inv-loop μ-loop
 turned-requires c κs = search needs
+
+picked-requires : tie.Need-picked-requires Inv-loop μ-loop
+picked-requires c κs = search needs
 
 edge-from-requires : tie.Need-edge-from-requires Inv-loop μ-loop
 edge-from-requires c κs = search needs
@@ -97,41 +100,41 @@ array-set-from-sums : tie.Need-array-set-from-sums Inv-loop μ-loop
 array-set-from-sums c = search needs
 
 loop-less : tie.Need-loop-less Inv-loop μ-loop
-loop-less c = omega (arith, c .before .before .before .before .before .before .before .before .before .before .before .before .before .before .before .before .before .before .before .before .before .before .before .if1 .taken)
+loop-less c = omega (arith, c .before .before .before .before .before .before .before .before .before .before .before .before .before .before .before .before .before .before .before .before .before .before .before .before .if1 .taken)
 
 loop-again : tie.Need-loop-again Inv-loop μ-loop
 loop-again c =
-    let a = c .before .before .before .before .before .before .before .before .before .before .before .before .before .before .before .before .before .before .before .before .before .before .before .before .before .before .before .before .before .before .args in
-    let L = c .before .before .before .before .before .before .before .before .before .before .before .before .before .before .before .before .before .before .before .before .before .before .before .before .before .loop in
+    let a = c .before .before .before .before .before .before .before .before .before .before .before .before .before .before .before .before .before .before .before .before .before .before .before .before .before .before .before .before .before .before .before .before .args in
+    let L = c .before .before .before .before .before .before .before .before .before .before .before .before .before .before .before .before .before .before .before .before .before .before .before .before .before .before .loop in
     let R = c .before .before .before .before .raised in
     let x = c .before .before .before .before .before .before .before .before .before .before .before .before .before .before .before .before .from-node in
     let y = c .before .before .before .before .before .before .before .before .before .before .before .before .before .before .before .to-node in
-    let e = c .before .before .before .before .before .before .before .before .before .before .before .before .before .before .before .before .before .before .before .before .before .turned .ensures .0 in
+    let e = c .before .before .before .before .before .before .before .before .before .before .before .before .before .before .before .before .before .before .before .before .before .picked .ensures .0 ∙ ap (pick (a .order .now) (a .known .of .edges)) (c .before .before .before .before .before .before .before .before .before .before .before .before .before .before .before .before .before .before .before .before .before .before .turned .ensures .0) in
     let p = c .before .before .before .before .before .before .before .before .before .before .before .before .before .before .before .before .before .before .before .before .edge-from .ensures .0 ∙ ap (edgeFrom (a .t .now)) e in
     let n = c .before .before .before .before .before .before .before .before .before .before .before .before .before .before .before .before .before .before .before .edge-to .ensures .0 ∙ ap (edgeTo (a .t .now)) e in
     let part = 4 * (a .known .of .functions + y .result) + 3 in
     let old = getD (L .sums) (x .result) (Bytes 0) in
-    let size = getD (a .t5) part (Bytes 0) in
+    let size = getD (a .t6) part (Bytes 0) in
     let set = member (a .known .synchronising) in
     let reached = member (a .known .reached) in
     let q =
-    step-raised (a .t .now) (a .choice .now) (a .known) (c .before .before .before .before .before .before .before .before .before .before .before .before .before .before .before .before .before .before .before .before .before .before .before .before .before .before .before .before .before .before .pre .0 .0) (a .s) (L .i) (x .result) (y .result) part (c .before .before .before .before .before .before .before .number .result) (c .before .before .before .before .before .number2 .result) (valueOf (getD (L .sums) (y .result) (Bytes 0))) (valueOf (c .before .before .before .before .before .before .before .before .before .before .before .add .result)) (L .inv .pass) (c .before .before .before .before .before .before .before .before .before .before .before .before .before .before .before .before .before .before .before .before .before .before .before .if1 .taken)
+    step-raised (a .t .now) (a .choice .now) (a .known) (c .before .before .before .before .before .before .before .before .before .before .before .before .before .before .before .before .before .before .before .before .before .before .before .before .before .before .before .before .before .before .before .before .pre .0 .0) (a .s) (a .order .now) (L .i) (x .result) (y .result) part (c .before .before .before .before .before .before .before .number .result) (c .before .before .before .before .before .number2 .result) (valueOf (getD (L .sums) (y .result) (Bytes 0))) (valueOf (c .before .before .before .before .before .before .before .before .before .before .before .add .result)) (L .inv .pass) (c .before .before .before .before .before .before .before .before .before .before .before .before .before .before .before .before .before .before .before .before .before .before .before .before .if1 .taken)
     (sym (c .before .before .before .before .before .before .before .before .before .before .before .before .before .before .before .before .before .before .steps-on .ensures ∙ ap₂ (steps set reached (a .s)) p n) ∙ c .before .before .before .before .before .before .before .before .before .before .before .before .before .before .before .before .before .if2 .taken)
     (x .ensures .0 ∙ ap₂ (from (a .s)) p n) (y .ensures .0 ∙ ap₂ (to (a .s)) p n) (x .ensures .1) (y .ensures .1) refl (c .before .before .before .before .before .before .before .number .ensures .0) (c .before .before .before .before .before .number2 .ensures .0) (map-at (L .sums) (y .result))
-    (omega (arith, value-is (c .before .before .before .before .before .before .before .before .before .before .before .add .result) (valueOf old + valueOf size) (c .before .before .before .before .before .before .before .before .before .before .before .add .ensures), map-at (L .sums) (x .result), map-at (a .t5) part)) (R .ensures) in
-    rw (map-set (L .sums) (y .result) (R .result)) (going-on (L .inv) (c .before .before .before .before .before .before .before .before .before .before .before .before .before .before .before .before .before .before .before .before .before .before .before .if1 .taken) (R .kept .1 .0) q)
+    (omega (arith, value-is (c .before .before .before .before .before .before .before .before .before .before .before .add .result) (valueOf old + valueOf size) (c .before .before .before .before .before .before .before .before .before .before .before .add .ensures), map-at (L .sums) (x .result), map-at (a .t6) part)) (R .ensures) in
+    rw (map-set (L .sums) (y .result) (R .result)) (going-on (L .inv) (c .before .before .before .before .before .before .before .before .before .before .before .before .before .before .before .before .before .before .before .before .before .before .before .before .if1 .taken) (R .kept .1 .0) q)
 
 loop-less-2 : tie.Need-loop-less-2 Inv-loop μ-loop
 loop-less-2 c = search needs
 
 loop-again-2 : tie.Need-loop-again-2 Inv-loop μ-loop
 loop-again-2 c =
-    let a = c .before .before .before .before .before .before .before .before .before .before .before .before .before .args in
-    let L = c .before .before .before .before .before .before .before .before .loop in
-    let e = c .before .before .before .before .turned .ensures .0 in
+    let a = c .before .before .before .before .before .before .before .before .before .before .before .before .before .before .before .args in
+    let L = c .before .before .before .before .before .before .before .before .before .loop in
+    let e = c .before .before .before .before .picked .ensures .0 ∙ ap (pick (a .order .now) (a .known .of .edges)) (c .before .before .before .before .before .turned .ensures .0) in
     let p = c .before .before .before .edge-from .ensures .0 ∙ ap (edgeFrom (a .t .now)) e in
     let n = c .before .before .edge-to .ensures .0 ∙ ap (edgeTo (a .t .now)) e in
-    going-off (L .inv) (c .before .before .before .before .before .before .if1 .taken) (sym (c .before .steps-on .ensures ∙ ap₂ (steps (member (a .known .synchronising)) (member (a .known .reached)) (a .s)) p n) ∙ c .if2 .left)
+    going-off (L .inv) (c .before .before .before .before .before .before .before .if1 .taken) (sym (c .before .steps-on .ensures ∙ ap₂ (steps (member (a .known .synchronising)) (member (a .known .reached)) (a .s)) p n) ∙ c .if2 .left)
 
 same-length : tie.Need-same-length Inv-loop μ-loop
 same-length c = search needs
@@ -150,6 +153,7 @@ step-spec =
     μ-loop
     loop-holds
     turned-requires
+    picked-requires
     edge-from-requires
     edge-to-requires
     add-i
