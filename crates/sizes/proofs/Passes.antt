@@ -278,13 +278,13 @@ pub record Going (S : Given) (of : Counts) (A : Values → Type 0) (put : List �
   pub nodes-few : of .nodes ≤ 512
   pub below : i ≤ count
   pub causes-long : length l ≡ 3840
-  pub stamps-long : length stamps ≡ 3840
+  pub stamps-long : length stamps ≡ 3841
   pub bound : then < 1000000000
   pub can : Can S A k clock
   pub pass : Pass S A put (Held on F i) k clock m l then
 
 module _ {S : Given} {of : Counts} {A : Values → Type 0} {put : List ℕ → Values → Values} {on : ℕ → Bool} {F : ℕ → Form} where
-  going : {count i : ℕ} {k : List ℕ} {clock : ℕ} {m l : List ℕ} {then : ℕ} {stamps : List ℕ} → of .functions ≤ 64 → of .nodes ≤ 512 → i ≤ count → length stamps ≡ 3840 → Can S A k clock → Pass S A put (Held on F i) k clock m l then → Going S of A put on F count i k clock m l then stamps
+  going : {count i : ℕ} {k : List ℕ} {clock : ℕ} {m l : List ℕ} {then : ℕ} {stamps : List ℕ} → of .functions ≤ 64 → of .nodes ≤ 512 → i ≤ count → length stamps ≡ 3841 → Can S A k clock → Pass S A put (Held on F i) k clock m l then → Going S of A put on F count i k clock m l then stamps
   going a b h e c p =
       let q = p .pass (c .values) (c .fits) (c .state) in
       record {
@@ -298,7 +298,7 @@ module _ {S : Given} {of : Counts} {A : Values → Type 0} {put : List ℕ → V
         pass = p;
       }
 
-  pub going-first : (t : List ℕ) {count : ℕ} {k : List ℕ} {clock : ℕ} {m stamps : List ℕ} → Ready t of → length stamps ≡ 3840 → Can S A k clock → Pass S A put (Held on F 0) k clock m k clock → Going S of A put on F count 0 k clock m k clock stamps
+  pub going-first : (t : List ℕ) {count : ℕ} {k : List ℕ} {clock : ℕ} {m stamps : List ℕ} → Ready t of → length stamps ≡ 3841 → Can S A k clock → Pass S A put (Held on F 0) k clock m k clock → Going S of A put on F count 0 k clock m k clock stamps
   going-first t r e c p = going (few-functions t of r) (few-nodes t of r) (omega arith) e c p
 
   module _ {count i : ℕ} {k : List ℕ} {clock : ℕ} {m l : List ℕ} {then : ℕ} {stamps : List ℕ} (g : Going S of A put on F count i k clock m l then stamps) where

@@ -22,13 +22,15 @@ pub(crate) fn narrow(x: usize) -> u16
     x as u16
 }
 
-// Whether the causes lead from one entry to another; a cause past the last entry is none. What is promised is what makes
-// a leap right; that no chain is missed makes it quick, and is seen from the passes that are counted.
+// Whether the causes lead from one entry to another; a cause past the last entry is none. A walk that comes back to its
+// mark runs in a ring that misses the goal; marks stand 1, 2, 4, .. steps on. What is promised is what makes a leap right;
+// that no chain is missed makes it quick, and is seen from the passes that are counted.
 fn leads(causes: &[u16], from: usize, to: usize) -> bool
     requires { ⌜ length (now causes) ≡ 3840 ⌝ }
     ensures { λ r. ⌜ (r ≡ true → Chain (at (now (causes .entry))) to from) ⌝ }
 {
     let mut entry = from;
+    let mut mark = from;
     let mut left = causes.len();
     while 0 < left {
         left -= 1;
@@ -39,23 +41,38 @@ fn leads(causes: &[u16], from: usize, to: usize) -> bool
             return true;
         }
         entry = wide(causes[entry]);
+        if entry == mark {
+            return false;
+        }
+        let walked = causes.len() - left;
+        if walked & (walked - 1) == 0 {
+            mark = entry;
+        }
     }
     false
 }
 
-// Whether y or z rose because of x, which has `old`. What has not risen yet is taken to have caused nothing: it is found
-// when it rises again, and long lines are not walked for nothing.
-fn caused(causes: &[u16], x: usize, old: u32, y: usize, z: usize) -> bool
+// Whether y or z rose because of x.
+fn caused(causes: &[u16], x: usize, y: usize, z: usize) -> bool
     requires { ⌜ length (now causes) ≡ 3840 ⌝ }
     ensures { λ r. ⌜ (r ≡ true → Chain (at (now (causes .entry))) x y ⊎ Chain (at (now (causes .entry))) x z) ⌝ }
 {
-    if old == 0 {
-        return false;
-    }
     if leads(causes, y, x) {
         return true;
     }
+    if y == z {
+        return false;
+    }
     leads(causes, z, x)
+}
+
+// Whether entry x rose before, and not yet in this pass: then its causes are walked. What feeds itself rises in every pass,
+// so one walk in each finds it, and a line of nodes is not walked for nothing.
+fn is_due(stamps: &[u32], x: usize) -> bool
+    requires { ⌜ (length (now stamps) ≡ 3841) × (x < 3840) ⌝ }
+{
+    let stamp = stamps[x];
+    (0 < stamp) & (stamp <= stamps[3840])
 }
 
 // The one of y and z that rose last.
@@ -66,7 +83,8 @@ fn later(stamps: &[u32], y: usize, z: usize) -> usize
     if stamps[y] < stamps[z] { z } else { y }
 }
 
-// What entry x, which has `old`, has where a rule asks for `sum` from the entries y and z. The clock counts the rises.
+// What entry x, which has `old`, has where a rule asks for `sum` from the entries y and z. The clock counts the rises, and
+// the stamps say when each entry rose last; after them stands when this pass began.
 pub(crate) fn raised(
     causes: &mut [u16],
     stamps: &mut [u32],
@@ -77,19 +95,20 @@ pub(crate) fn raised(
     z: usize,
     sum: Size,
 ) -> Size
-    requires { ⌜ (length (now causes) ≡ 3840) × (length (now stamps) ≡ 3840) × (now clock < 1000000000) ⌝ }
+    requires { ⌜ (length (now causes) ≡ 3840) × (length (now stamps) ≡ 3841) × (now clock < 1000000000) ⌝ }
     requires { ⌜ (x < 3840) × (y < 3840) × (z < 3840) ⌝ }
     ensures { λ r. ⌜ Raised (now (causes .entry)) x (valueOf old) y z (valueOf sum) (now (clock .entry)) (now (causes .exit)) (valueOf r) (now (clock .exit)) ⌝ }
 {
-    let low = old.number();
-    if sum.number() <= low {
+    if sum.number() <= old.number() {
         return old;
     }
     let tick = *clock + 1;
     *clock = tick;
-    if caused(causes, x, low, y, z) {
-        causes[x] = 65535;
-        return Size::Unbounded;
+    if is_due(stamps, x) {
+        if caused(causes, x, y, z) {
+            causes[x] = 65535;
+            return Size::Unbounded;
+        }
     }
     let cause = later(stamps, y, z);
     stamps[x] = tick;

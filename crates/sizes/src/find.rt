@@ -70,7 +70,7 @@ fn solve(
     passes: &mut u32,
 ) -> [Size; 2304]
     requires { ⌜ Ready (now t) (known .of) × Sets (programOf (now t)) (known .synchronising) (known .reached) ⌝ }
-    requires { ⌜ (now causes ≡ replicate 3840 65535) × (length (now stamps) ≡ 3840) ⌝ }
+    requires { ⌜ (now causes ≡ replicate 3840 65535) × (length (now stamps) ≡ 3841) ⌝ }
     requires { ⌜ (512 ≤ length (now afters)) × (512 ≤ length (now befores)) ⌝ }
     ensures { λ r. ⌜ SizesOf (programOf (now (t .entry))) (member (known .synchronising)) (at (now (choice .entry))) (at (map valueOf r)) (at (now (afters .exit))) (at (now (befores .exit))) ⌝ }
 {
@@ -82,6 +82,7 @@ fn solve(
     let mut count: u32 = 0;
     loop {
         let started = clock;
+        stamps[3840] = started;
         count += 1;
         let taken = targets(t, choice, known, sizes, causes, stamps, &mut clock);
         let a = raise_sums(
@@ -149,7 +150,7 @@ pub fn find(
     ensures { λ r. ⌜ SizesOf (programOf (now (t .entry))) (member (known .synchronising)) (at (now (choice .entry))) (at (map valueOf r)) (at (now (after .exit))) (at (now (before .exit))) ⌝ }
 {
     let mut causes = [65535u16; 3840];
-    let mut stamps = [0u32; 3840];
+    let mut stamps = [0u32; 3841];
     let mut order = [0u16; 1024];
     order_edges(t, known.of, &mut order);
     solve(

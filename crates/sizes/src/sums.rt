@@ -77,7 +77,7 @@ pub(crate) fn start(
     stamps: &mut [u32],
     clock: &mut u32,
 ) -> [Size; 512]
-    requires { ⌜ Ready (now t) (known .of) × (length (now stamps) ≡ 3840) ⌝ }
+    requires { ⌜ Ready (now t) (known .of) × (length (now stamps) ≡ 3841) ⌝ }
     requires { ⌜ Can (given (now t) (now choice) known) (Summed s (map valueOf sizes) (map valueOf from)) (now causes) (now clock) ⌝ }
     ensures { λ r. ⌜ Pass (given (now (t .entry)) (now (choice .entry)) known) (Summed s (map valueOf sizes) (map valueOf from)) (putSums s) (Held (starts (programOf (now (t .entry))) s) (startForm (programOf (now (t .entry))) s) (known .of .nodes)) (now (causes .entry)) (now (clock .entry)) (map valueOf r) (now (causes .exit)) (now (clock .exit)) ⌝ }
 {
@@ -180,7 +180,7 @@ fn step(
     stamps: &mut [u32],
     clock: &mut u32,
 ) -> [Size; 512]
-    requires { ⌜ Ready (now t) (known .of) × (length (now stamps) ≡ 3840) ⌝ }
+    requires { ⌜ Ready (now t) (known .of) × (length (now stamps) ≡ 3841) ⌝ }
     requires { ⌜ Can (given (now t) (now choice) known) (Summed s (map valueOf sizes) (map valueOf from)) (now causes) (now clock) ⌝ }
     ensures { λ r. ⌜ Pass (given (now (t .entry)) (now (choice .entry)) known) (Summed s (map valueOf sizes) (map valueOf from)) (putSums s) (Held (stepOn (now (t .entry)) known (now (order .entry)) s) (stepOf (now (t .entry)) known (now (order .entry)) s) (known .of .edges)) (now (causes .entry)) (now (clock .entry)) (map valueOf r) (now (causes .exit)) (now (clock .exit)) ⌝ }
 {
@@ -262,7 +262,7 @@ pub(crate) fn end(
     stamps: &mut [u32],
     clock: &mut u32,
 ) -> [Size; 2304]
-    requires { ⌜ Ready (now t) (known .of) × (length (now stamps) ≡ 3840) ⌝ }
+    requires { ⌜ Ready (now t) (known .of) × (length (now stamps) ≡ 3841) ⌝ }
     requires { ⌜ Can (given (now t) (now choice) known) (Summed s (map valueOf from) (map valueOf sums)) (now causes) (now clock) ⌝ }
     ensures { λ r. ⌜ Pass (given (now (t .entry)) (now (choice .entry)) known) (Summed s (map valueOf from) (map valueOf sums)) putSizes (Held (ends (programOf (now (t .entry))) (member (known .reached)) s) (endForm (programOf (now (t .entry))) s) (known .of .functions)) (now (causes .entry)) (now (clock .entry)) (map valueOf r) (now (causes .exit)) (now (clock .exit)) ⌝ }
 {
@@ -297,7 +297,7 @@ pub(crate) fn raise_sums(
     stamps: &mut [u32],
     clock: &mut u32,
 ) -> [Size; 512]
-    requires { ⌜ Ready (now t) (known .of) × (length (now stamps) ≡ 3840) ⌝ }
+    requires { ⌜ Ready (now t) (known .of) × (length (now stamps) ≡ 3841) ⌝ }
     requires { ⌜ Can (given (now t) (now choice) known) (Summed s (map valueOf sizes) (map valueOf from)) (now causes) (now clock) ⌝ }
     ensures { λ r. ⌜ Pass (given (now (t .entry)) (now (choice .entry)) known) (Summed s (map valueOf sizes) (map valueOf from)) (putSums s) (SumsHeld (now (t .entry)) known s) (now (causes .entry)) (now (clock .entry)) (map valueOf r) (now (causes .exit)) (now (clock .exit)) ⌝ }
 {

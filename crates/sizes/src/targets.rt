@@ -51,7 +51,7 @@ pub(crate) fn targets(
     stamps: &mut [u32],
     clock: &mut u32,
 ) -> [Size; 2304]
-    requires { ⌜ Ready (now t) (known .of) × (length (now stamps) ≡ 3840) ⌝ }
+    requires { ⌜ Ready (now t) (known .of) × (length (now stamps) ≡ 3841) ⌝ }
     requires { ⌜ Can (given (now t) (now choice) known) (Sized (map valueOf from)) (now causes) (now clock) ⌝ }
     ensures { λ r. ⌜ Pass (given (now (t .entry)) (now (choice .entry)) known) (Sized (map valueOf from)) putSizes (Held (targetOn (now (t .entry)) (now (choice .entry))) (targetAt (now (t .entry))) (4 * known .of .nodes)) (now (causes .entry)) (now (clock .entry)) (map valueOf r) (now (causes .exit)) (now (clock .exit)) ⌝ }
 {

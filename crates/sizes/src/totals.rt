@@ -45,7 +45,7 @@ pub(crate) fn total_nodes(
     stamps: &mut [u32],
     clock: &mut u32,
 ) -> [Size; 2304]
-    requires { ⌜ Ready (now t) (known .of) × (length (now stamps) ≡ 3840) ⌝ }
+    requires { ⌜ Ready (now t) (known .of) × (length (now stamps) ≡ 3841) ⌝ }
     requires { ⌜ Can (given (now t) (now choice) known) (Sized (map valueOf from)) (now causes) (now clock) ⌝ }
     ensures { λ r. ⌜ Pass (given (now (t .entry)) (now (choice .entry)) known) (Sized (map valueOf from)) putSizes (Held (λ n. true) (totalNodeForm (programOf (now (t .entry)))) (known .of .nodes)) (now (causes .entry)) (now (clock .entry)) (map valueOf r) (now (causes .exit)) (now (clock .exit)) ⌝ }
 {
@@ -76,7 +76,7 @@ pub(crate) fn total_edges(
     stamps: &mut [u32],
     clock: &mut u32,
 ) -> [Size; 2304]
-    requires { ⌜ Ready (now t) (known .of) × (length (now stamps) ≡ 3840) ⌝ }
+    requires { ⌜ Ready (now t) (known .of) × (length (now stamps) ≡ 3841) ⌝ }
     requires { ⌜ Can (given (now t) (now choice) known) (Summed After (map valueOf from) (map valueOf after)) (now causes) (now clock) ⌝ }
     ensures { λ r. ⌜ Pass (given (now (t .entry)) (now (choice .entry)) known) (Summed After (map valueOf from) (map valueOf after)) putSizes (Held (λ e. true) (totalEdgeOf (now (t .entry))) (known .of .edges)) (now (causes .entry)) (now (clock .entry)) (map valueOf r) (now (causes .exit)) (now (clock .exit)) ⌝ }
 {
@@ -110,7 +110,7 @@ pub(crate) fn raise_functions(
     stamps: &mut [u32],
     clock: &mut u32,
 ) -> [Size; 2304]
-    requires { ⌜ Ready (now t) (known .of) × (length (now stamps) ≡ 3840) ⌝ }
+    requires { ⌜ Ready (now t) (known .of) × (length (now stamps) ≡ 3841) ⌝ }
     requires { ⌜ State (given (now t) (now choice) known) (valuesOf from after before through) (now causes) × (now clock + roomOf (valuesOf from after before through) < 1000000000) ⌝ }
     ensures { λ r. ⌜ Passed (given (now (t .entry)) (now (choice .entry)) known) (FunctionsHeld (now (t .entry)) known (valuesOf from after before through)) (valuesOf from after before through) (now (causes .entry)) (now (clock .entry)) (valuesOf r after before through) (now (causes .exit)) (now (clock .exit)) ⌝ }
 {

@@ -1,8 +1,7 @@
 // Prints in how many passes the sizes are found of the tables and choices that standard input describes, as `script` reads
 // them. They are such that a plain iteration would crawl. The counts are held by the stored output, and not promised.
 // A loss of speed raises them: to some 65,540 on recursion and on a loop that adds up, if entries do not leap to unbounded;
-// to 500 on the line of nodes, if a sum goes over the edges against its way. The line whose edges stand downwards takes a
-// pass for each node as it is.
+// to 500 on a line of nodes, if the edges are gone over against their way.
 use libc::STDOUT_FILENO;
 use sizes::Answer;
 use sizes::admit::admit;

@@ -18,6 +18,9 @@ returns c = kept (omega (arith, c .before .number2 .ensures, c .before .before .
 add-tick : tie.Need-add-tick
 add-tick c = search needs
 
+is-due-requires : tie.Need-is-due-requires
+is-due-requires c κs = search needs
+
 caused-requires : tie.Need-caused-requires
 caused-requires c κs = search needs
 
@@ -30,11 +33,14 @@ slice-write-causes c = search needs
 same-length : tie.Need-same-length
 same-length c = search needs
 
+same-length-2 : tie.Need-same-length-2
+same-length-2 c = search needs
+
 returns-2 : tie.Need-returns-2
 returns-2 c =
     leapt
-    (omega (arith, c .before .before .before .before .before .number2 .ensures, c .before .before .before .before .before .before .number .ensures))
-    (c .before .caused .ensures (c .if2 .taken))
+    (omega (arith, c .before .before .before .before .before .before .before .before .number2 .ensures, c .before .before .before .before .before .before .before .before .before .number .ensures))
+    (c .before .caused .ensures (c .if3 .taken))
     refl
     refl
     refl
@@ -57,11 +63,11 @@ mul-causes-2 c = search needs
 slice-write-causes-2 : tie.Need-slice-write-causes-2
 slice-write-causes-2 c = search needs
 
-same-length-2 : tie.Need-same-length-2
-same-length-2 c = search needs
-
 same-length-3 : tie.Need-same-length-3
 same-length-3 c = search needs
+
+same-length-4 : tie.Need-same-length-4
+same-length-4 c = search needs
 
 returns-3 : tie.Need-returns-3
 returns-3 c =
@@ -81,10 +87,12 @@ raised-spec =
     number-requires-2
     returns
     add-tick
+    is-due-requires
     caused-requires
     mul-causes
     slice-write-causes
     same-length
+    same-length-2
     returns-2
     later-requires
     mul-stamps
@@ -92,6 +100,6 @@ raised-spec =
     narrow-requires
     mul-causes-2
     slice-write-causes-2
-    same-length-2
     same-length-3
+    same-length-4
     returns-3)

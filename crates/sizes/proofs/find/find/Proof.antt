@@ -21,7 +21,7 @@ slice-aggregate-solve-3 : tie.Need-slice-aggregate-solve-3
 slice-aggregate-solve-3 c = search needs
 
 solve-requires : tie.Need-solve-requires
-solve-requires c κs = (c .before .before .before .before .before .before .before .before .before .before .before .before .before .pre .0, ((refl, length-replicate {A = ℕ} 3840 0), c .before .before .before .before .before .before .before .before .before .before .before .before .before .pre .1))
+solve-requires c κs = (c .before .before .before .before .before .before .before .before .before .before .before .before .before .pre .0, ((refl, length-replicate {A = ℕ} 3841 0), c .before .before .before .before .before .before .before .before .before .before .before .before .before .pre .1))
 
 same-length : tie.Need-same-length
 same-length c = search needs
