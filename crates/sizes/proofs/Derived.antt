@@ -10,7 +10,7 @@ use Rattle.table.specs.WellFormed.{WellFormed}
 use Rattle.sync.specs.Paths.{Path, stop, step, Clear}
 use Rattle.sync.specs.Synchronising.{Reached}
 use Rattle.sync.proofs.Paths.{path-owner, clear-open}
-use Rattle.sizes.specs.Size.{cap}
+use Rattle.size.specs.Size.{cap}
 use Rattle.sizes.specs.Rules.{total, post, pre, through, frameOf, ofNode, sum, Meets}
 use Rattle.sizes.specs.Sums.{Ahead, afterSum, beforeSum}
 use Rattle.sizes.specs.System.{Entry, size, along, nodeEntry, functionEntry, Rule, start, step-on, end, total-node, total-edge, target-of, formOf, gives, taken, Der, none, rule}

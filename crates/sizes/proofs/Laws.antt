@@ -9,7 +9,7 @@ use Rattle.table.specs.SameButEdges.{SameButEdges}
 use Rattle.table.proofs.Laws.{same-program}
 use Rattle.sync.specs.Synchronising.{Synchronising}
 use Rattle.sync.proofs.Laws.{synchronising-unique}
-use Rattle.sizes.specs.Size.{unbounded}
+use Rattle.size.specs.Size.{unbounded}
 use Rattle.sizes.specs.Rules.{entries, Meets, Least, LeastSizes}
 
 -- One choice is at or below another, node by node.

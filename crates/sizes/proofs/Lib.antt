@@ -1,6 +1,5 @@
--- For the crates above: laws of the rules, of sizes as numbers, and of calls.
+-- For the crates above: laws of the rules, and of calls.
 pub mod Laws
-pub mod Values
 pub mod Calls
 -- How the promises come about.
 mod Ahead

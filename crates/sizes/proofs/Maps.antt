@@ -3,10 +3,10 @@ use Prim.Native.Nat.{ℕ, zero, suc}
 use mathlib.Core.Path.{_≡_, refl, sym, ap}
 use mathlib.Core.List.{List, [], _∷_, map}
 use lib.ListN.{getD, set, List·getD-map}
-use Rattle.sizes.specs.Size.{valueOf}
+use Rattle.size.specs.Size.{valueOf}
 use Rattle.sizes.specs.Causes.{at}
-use Rattle.sizes.specs.declared.size.Size.{Size}
-use Rattle.sizes.specs.declared.size.Size.the-variants.{Bytes}
+use Rattle.size.specs.declared.Size.{Size}
+use Rattle.size.specs.declared.Size.the-variants.{Bytes}
 
 pub map-set : (l : List Size) (i : ℕ) (y : Size) → map valueOf (set l i y) ≡ set (map valueOf l) i (valueOf y)
 map-set [] i y = refl

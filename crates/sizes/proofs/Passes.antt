@@ -12,7 +12,7 @@ use Rattle.table.specs.Answer.{Ready}
 use Rattle.table.specs.declared.Counts.{Counts}
 use Rattle.table.proofs.Booleans.{not-both}
 use Rattle.table.proofs.Ready.{few-functions, few-nodes}
-use Rattle.sizes.specs.Size.{unbounded}
+use Rattle.size.specs.Size.{unbounded}
 use Rattle.sizes.specs.System.{Entry, size, along, Form, formOf, gives}
 use Rattle.sizes.specs.Causes.{Given, RuleOf, offset, entryCount, entryAt, Ok, at, Chain, uncaused, Raised, kept, risen, leapt}
 use Rattle.sizes.specs.Passes.{Values, sums, valueAt, putSums, putSizes, room, roomOf, State, Passed, Held, Sized, Summed, Pass, Can}

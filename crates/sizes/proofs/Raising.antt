@@ -10,7 +10,7 @@ use Rattle.table.specs.Answer.{Ready}
 use Rattle.table.specs.Program.{programOf}
 use Rattle.table.proofs.Ready.{few-functions, few-nodes, functions-are, nodes-are, edge-is}
 use Rattle.sync.specs.Words.{member}
-use Rattle.sizes.specs.Size.{unbounded, cap}
+use Rattle.size.specs.Size.{unbounded, cap}
 use Rattle.sizes.specs.Rules.{frameOf}
 use Rattle.sizes.specs.System.{size, along, kindFor, ending, ends, due, taken, end, total-node, total-edge, target-of, endForm, totalNodeForm}
 use Rattle.sizes.specs.Causes.{offset, at, Raised}

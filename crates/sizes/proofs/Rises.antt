@@ -8,7 +8,7 @@ use native.Mathlib.Omega.{arith}
 use native.Mathlib.Decide.{ℕ-discrete, decLe, decLt}
 use lib.Dec.{ltb}
 use borrow.Author.Tests.{lt-ltb, le-ltb}
-use Rattle.sizes.specs.Size.{unbounded, cap}
+use Rattle.size.specs.Size.{unbounded, cap}
 use Rattle.sizes.specs.System.{Entry, size, along, Form, formOf, sumOf, gives, Der, none, rule}
 use Rattle.sizes.specs.Causes.{Given, RuleOf, DerOf, offset, entryCount, entryAt, Lead, Ok, Chain, met, via}
 use Rattle.sizes.specs.declared.sums.Sum.{Sum}

@@ -7,7 +7,7 @@ use mathlib.Core.Logic.{_⊎_}
 use lib.Dec.{ltb}
 use lib.ListN.{getD, set}
 use Rattle.table.specs.Program.{Program}
-use Rattle.sizes.specs.Size.{unbounded, cap}
+use Rattle.size.specs.Size.{unbounded, cap}
 use Rattle.sizes.specs.System.{Entry, size, along, Rule, Der}
 use Rattle.sizes.specs.declared.sums.Sum.{Sum}
 use Rattle.sizes.specs.declared.sums.Sum.the-variants.{After, Before, Through}

@@ -7,7 +7,7 @@ use Rattle.table.specs.Answer.{Ready}
 use Rattle.table.specs.Program.{programOf}
 use Rattle.sync.specs.Words.{member}
 use Rattle.sync.specs.Answer.{Sets}
-use Rattle.sizes.specs.Size.{valueOf}
+use Rattle.size.specs.Size.{valueOf}
 use Rattle.sizes.specs.System.{Form, starts, steps, turn, pick, ends, takes, startForm, stepForm, endForm, totalNodeForm, totalEdgeForm, targetForm}
 use Rattle.sizes.specs.Causes.{Given, at}
 use Rattle.sizes.specs.Passes.{Values, Held}
@@ -15,7 +15,7 @@ use Rattle.sizes.specs.Call.{Call}
 use Rattle.sizes.specs.declared.Answer.{Answer}
 use Rattle.sizes.specs.declared.Answer.the-variants.{Done, Refused}
 use Rattle.sizes.specs.declared.Known.{Known}
-use Rattle.sizes.specs.declared.size.Size.{Size}
+use Rattle.size.specs.declared.Size.{Size}
 use Rattle.sizes.specs.declared.sums.Sum.{Sum}
 
 abbrev pub call : List ℕ → List ℕ → ℕ → Call

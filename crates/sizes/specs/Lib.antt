@@ -1,5 +1,4 @@
 -- What is believed, in reading order.
-pub mod Size
 pub mod Choice
 pub mod Rules
 pub mod Sums

@@ -4,7 +4,7 @@ use mathlib.Core.Path.{_≡_}
 use mathlib.Core.Bool.{Bool, true}
 use mathlib.Core.List.{List, [], _∷_}
 use lib.ListN.{length}
-use Rattle.sizes.specs.Size.{unbounded}
+use Rattle.size.specs.Size.{unbounded}
 use Rattle.sizes.specs.System.{Entry, size, along, Form, gives}
 use Rattle.sizes.specs.Causes.{Given, Ok, at, entryCount}
 use Rattle.sizes.specs.declared.sums.Sum.{Sum}

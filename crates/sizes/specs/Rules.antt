@@ -6,7 +6,7 @@ use Rattle.table.specs.Record.{call, spawn}
 use Rattle.table.specs.Program.{Program}
 use Rattle.sync.specs.Paths.{Path, stop, step, Clear, Open}
 use Rattle.sync.specs.Synchronising.{Synchronising}
-use Rattle.sizes.specs.Size.{unbounded, cap}
+use Rattle.size.specs.Size.{unbounded, cap}
 use Rattle.sizes.specs.Choice.{Merges, LeavesUnguarded}
 
 -- "Each function and node has four sizes: Total, Post, Pre, Through." The kinds of size, in that order:

@@ -4,7 +4,7 @@ use mathlib.Core.Path.{_≡_}
 use mathlib.Core.Bool.{Bool, false}
 use Rattle.table.specs.Program.{Program}
 use Rattle.sync.specs.Paths.{Path, stop, step, Clear}
-use Rattle.sizes.specs.Size.{cap}
+use Rattle.size.specs.Size.{cap}
 use Rattle.sizes.specs.Rules.{post, pre, through, ofNode, sumAfter, sumBefore}
 
 -- no node before the last is a member of the set

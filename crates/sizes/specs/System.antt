@@ -7,7 +7,7 @@ use lib.Dec.{eqb, leb, ltb}
 use lib.ListN.{getD}
 use Rattle.table.specs.Record.{call, spawn}
 use Rattle.table.specs.Program.{Program}
-use Rattle.sizes.specs.Size.{cap}
+use Rattle.size.specs.Size.{cap}
 use Rattle.sizes.specs.Choice.{guarded, unguarded}
 use Rattle.sizes.specs.Rules.{total, post, pre, through, frameOf}
 use Rattle.sizes.specs.declared.sums.Sum.{Sum}

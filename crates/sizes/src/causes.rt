@@ -1,12 +1,12 @@
 // Causes: for each entry, the entry of its rule that made it rise last. An entry that would rise because of itself is
 // unbounded, at once. An entry is a size, by its place in the written order, or a sum of a node, by `sums::number`.
-use crate::size::Size;
+use size::Size;
 ghost use mathlib.Core.Path.{_≡_};
 ghost use mathlib.Core.Bool.{true};
 ghost use mathlib.Core.Logic.{_⊎_};
 ghost use Prim.Native.Nat.{_<_};
 ghost use lib.ListN.{length};
-ghost use Rattle.sizes.specs.Size.{valueOf};
+ghost use Rattle.size.specs.Size.{valueOf};
 ghost use Rattle.sizes.specs.Causes.{at, Chain, Raised};
 
 pub(crate) fn wide(x: u16) -> usize

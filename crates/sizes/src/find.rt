@@ -1,11 +1,11 @@
 // The least sizes of a choice: passes over all rules, until one raises nothing.
 use crate::Known;
 use crate::order::order_edges;
-use crate::size::Size;
 use crate::sums::Sum;
 use crate::sums::raise_sums;
 use crate::targets::targets;
 use crate::totals::raise_functions;
+use size::Size;
 ghost use mathlib.Core.Path.{_≡_};
 ghost use mathlib.Core.List.{map};
 ghost use Prim.Native.Nat.{_≤_};
@@ -14,7 +14,7 @@ ghost use Rattle.table.specs.Answer.{Ready};
 ghost use Rattle.table.specs.Program.{programOf};
 ghost use Rattle.sync.specs.Words.{member};
 ghost use Rattle.sync.specs.Answer.{Sets};
-ghost use Rattle.sizes.specs.Size.{valueOf};
+ghost use Rattle.size.specs.Size.{valueOf};
 ghost use Rattle.sizes.specs.Answer.{SizesOf, Written};
 ghost use Rattle.sizes.specs.Causes.{at};
 

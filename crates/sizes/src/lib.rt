@@ -3,7 +3,6 @@ pub mod admit;
 mod causes;
 pub mod find;
 mod order;
-pub mod size;
 mod sums;
 mod targets;
 mod totals;

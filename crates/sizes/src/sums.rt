@@ -2,8 +2,8 @@
 use crate::Known;
 use crate::causes::raised;
 use crate::causes::wide;
-use crate::size::Size;
 use crate::totals::frame_size;
+use size::Size;
 use sync::words::has;
 use table::Counts;
 use table::program;
@@ -14,7 +14,7 @@ ghost use lib.ListN.{length};
 ghost use Rattle.table.specs.Answer.{Ready};
 ghost use Rattle.table.specs.Program.{programOf};
 ghost use Rattle.sync.specs.Words.{member};
-ghost use Rattle.sizes.specs.Size.{valueOf};
+ghost use Rattle.size.specs.Size.{valueOf};
 ghost use Rattle.sizes.specs.System.{kindFor, starts, from, to, steps, turn, pick, ending, ends, due, startForm, endForm};
 ghost use Rattle.sizes.specs.Causes.{offset};
 ghost use Rattle.sizes.specs.Passes.{Summed, putSums, putSizes, Held, Pass, Can};

@@ -1,7 +1,7 @@
 // Sizes of calls and merged spawns.
 use crate::Known;
 use crate::causes::raised;
-use crate::size::Size;
+use size::Size;
 use table::Counts;
 use table::program;
 ghost use mathlib.Core.Path.{_≡_};
@@ -10,7 +10,7 @@ ghost use Prim.Native.Nat.{_*_, _<_, _≤_};
 ghost use lib.ListN.{length};
 ghost use Rattle.table.specs.Answer.{Ready};
 ghost use Rattle.table.specs.Program.{programOf};
-ghost use Rattle.sizes.specs.Size.{valueOf};
+ghost use Rattle.size.specs.Size.{valueOf};
 ghost use Rattle.sizes.specs.System.{takes, taken};
 ghost use Rattle.sizes.specs.Causes.{at};
 ghost use Rattle.sizes.specs.Passes.{Sized, putSizes, Held, Pass, Can};

@@ -1,9 +1,9 @@
 // Total of functions.
 use crate::Known;
 use crate::causes::raised;
-use crate::size::Size;
 use crate::sums::Sum;
 use crate::sums::end;
+use size::Size;
 use table::Counts;
 use table::program;
 ghost use mathlib.Core.Path.{_≡_};
@@ -13,7 +13,7 @@ ghost use lib.ListN.{length};
 ghost use Rattle.table.specs.Answer.{Ready};
 ghost use Rattle.table.specs.Program.{programOf};
 ghost use mathlib.Core.Bool.{true};
-ghost use Rattle.sizes.specs.Size.{valueOf, sizeOf};
+ghost use Rattle.size.specs.Size.{valueOf, sizeOf};
 ghost use Rattle.sizes.specs.Rules.{frameOf};
 ghost use Rattle.sizes.specs.System.{totalNodeForm};
 ghost use Rattle.sizes.specs.Passes.{Sized, Summed, putSizes, roomOf, State, Passed, Held, Pass, Can};

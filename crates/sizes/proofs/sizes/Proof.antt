@@ -6,7 +6,7 @@ use lib.ListN.{length}
 use Rattle.table.specs.Program.{programOf}
 use Rattle.table.proofs.Ready.{few-functions, few-nodes, functions-are, nodes-are}
 use Rattle.sync.specs.Words.{member}
-use Rattle.sizes.specs.Size.{valueOf}
+use Rattle.size.specs.Size.{valueOf}
 use Rattle.sizes.specs.Rules.{entries}
 use Rattle.sizes.specs.Call.{resultOf}
 use Rattle.sizes.specs.Causes.{at}

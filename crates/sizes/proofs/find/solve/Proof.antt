@@ -4,7 +4,7 @@ use mathlib.Core.Path.{_≡_, refl, sym, ap, _∙_}
 use mathlib.Core.List.{map}
 use native.Mathlib.Omega.{arith}
 use lib.ListN.{length, length-set, length-replicate}
-use Rattle.sizes.specs.Size.{valueOf}
+use Rattle.size.specs.Size.{valueOf}
 use Rattle.sizes.specs.Passes.{roomOf, State}
 use Rattle.sizes.specs.Known.{given, valuesOf}
 use Rattle.sizes.proofs.Rounds.{can-targets, can-after-sums, can-before-sums, can-through-sums, functions-state, functions-bound, all-passed}

@@ -4,7 +4,7 @@ use mathlib.Core.Path.{_∙_}
 use mathlib.Core.List.{map}
 use native.Mathlib.Omega.{arith}
 use lib.ListN.{length}
-use Rattle.sizes.specs.Size.{valueOf}
+use Rattle.size.specs.Size.{valueOf}
 use Rattle.sizes.specs.Answer.{Written}
 use Rattle.sizes.specs.Causes.{at}
 use Rattle.sizes.proofs.Maps.{map-at}

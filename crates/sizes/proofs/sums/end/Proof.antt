@@ -6,14 +6,14 @@ use Rattle.sizes.specs.System.{ends, endForm}
 use Rattle.sizes.specs.Passes.{Summed, putSizes}
 use Rattle.sizes.proofs.Passes.{Going, going-first, going-on, going-off, going-last, sizes-none}
 use Rattle.sizes.proofs.Raising.{end-raised}
-use Rattle.sizes.proofs.Values.{value-is}
+use Rattle.size.proofs.Values.{value-is}
 use mathlib.Core.List.{map}
 use native.Mathlib.Omega.{arith}
 use lib.ListN.{getD}
 use Rattle.table.specs.Program.{programOf}
-use Rattle.sizes.specs.Size.{valueOf}
+use Rattle.size.specs.Size.{valueOf}
 use Rattle.sizes.specs.Known.{given}
-use Rattle.sizes.specs.declared.size.Size.the-variants.{Bytes}
+use Rattle.size.specs.declared.Size.the-variants.{Bytes}
 use Rattle.sizes.proofs.Maps.{map-set, map-at}
 use Rattle.sizes.proofs.sums.end.Statement.{statement}
 use Rattle.sizes.proofs.sums.end.Tie as tie

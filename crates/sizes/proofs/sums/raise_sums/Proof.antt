@@ -1,6 +1,6 @@
 use mathlib.Core.Path.{_∙_}
 use mathlib.Core.List.{map}
-use Rattle.sizes.specs.Size.{valueOf}
+use Rattle.size.specs.Size.{valueOf}
 use Rattle.sizes.proofs.Rounds.{can-next, summed-put, sums-risen, can-again, sums-passed}
 use borrow.Author.Needs.{needs}
 use Rattle.sizes.proofs.sums.raise_sums.Statement.{statement}

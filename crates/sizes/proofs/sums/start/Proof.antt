@@ -1,8 +1,8 @@
 use Prim.Native.Nat.{_+_, _*_}
 use mathlib.Core.Path.{sym, _∙_}
 use lib.ListN.{getD}
-use Rattle.sizes.specs.declared.size.Size.the-variants.{Bytes}
-use Rattle.sizes.proofs.Values.{value-le}
+use Rattle.size.specs.declared.Size.the-variants.{Bytes}
+use Rattle.size.proofs.Values.{value-le}
 use Rattle.sizes.proofs.Maps.{map-set, map-at}
 use borrow.Author.Needs.{needs}
 use Prim.Native.Nat.{_-_}
@@ -10,7 +10,7 @@ use mathlib.Core.Path.{ap}
 use mathlib.Core.List.{map}
 use native.Mathlib.Omega.{arith}
 use Rattle.table.specs.Program.{programOf}
-use Rattle.sizes.specs.Size.{valueOf}
+use Rattle.size.specs.Size.{valueOf}
 use Rattle.sizes.specs.System.{starts, startForm}
 use Rattle.sizes.specs.Passes.{Summed, putSums}
 use Rattle.sizes.specs.Known.{given}

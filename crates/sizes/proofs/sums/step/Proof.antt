@@ -8,12 +8,12 @@ use Rattle.sizes.specs.Passes.{Summed, putSums}
 use Rattle.sizes.specs.Known.{given, stepOn, stepOf}
 use Rattle.sizes.proofs.Passes.{Going, going-first, going-on, going-off, going-last, sums-none}
 use Rattle.sizes.proofs.Along.{step-raised}
-use Rattle.sizes.proofs.Values.{value-is}
+use Rattle.size.proofs.Values.{value-is}
 use mathlib.Core.List.{map}
 use native.Mathlib.Omega.{arith}
 use lib.ListN.{getD}
-use Rattle.sizes.specs.Size.{valueOf}
-use Rattle.sizes.specs.declared.size.Size.the-variants.{Bytes}
+use Rattle.size.specs.Size.{valueOf}
+use Rattle.size.specs.declared.Size.the-variants.{Bytes}
 use Rattle.sizes.proofs.Maps.{map-set, map-at}
 use Rattle.sizes.proofs.sums.step.Statement.{statement}
 use Rattle.sizes.proofs.sums.step.Tie as tie

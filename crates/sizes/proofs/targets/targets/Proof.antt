@@ -5,12 +5,12 @@ use Rattle.sizes.specs.Passes.{Sized, putSizes}
 use Rattle.sizes.specs.Known.{given, targetOn, targetAt}
 use Rattle.sizes.proofs.Passes.{Going, going-first, going-on, going-off, going-last, sizes-none}
 use Rattle.sizes.proofs.Raising.{target-raised}
-use Rattle.sizes.proofs.Values.{value-le}
+use Rattle.size.proofs.Values.{value-le}
 use mathlib.Core.List.{map}
 use native.Mathlib.Omega.{arith}
 use lib.ListN.{getD}
-use Rattle.sizes.specs.Size.{valueOf}
-use Rattle.sizes.specs.declared.size.Size.the-variants.{Bytes}
+use Rattle.size.specs.Size.{valueOf}
+use Rattle.size.specs.declared.Size.the-variants.{Bytes}
 use Rattle.sizes.proofs.Maps.{map-set, map-at}
 use Rattle.sizes.proofs.targets.targets.Statement.{statement}
 use Rattle.sizes.proofs.targets.targets.Tie as tie

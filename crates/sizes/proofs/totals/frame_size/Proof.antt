@@ -1,7 +1,7 @@
 use mathlib.Core.Path.{ap}
 use native.Mathlib.Omega.{arith}
-use Rattle.sizes.specs.Size.{valueOf}
-use Rattle.sizes.proofs.Values.{value-size}
+use Rattle.size.specs.Size.{valueOf}
+use Rattle.size.proofs.Values.{value-size}
 use borrow.Author.Needs.{needs}
 use Rattle.sizes.proofs.totals.frame_size.Statement.{statement}
 use Rattle.sizes.proofs.totals.frame_size.Tie as tie

@@ -7,12 +7,12 @@ use Rattle.sizes.specs.Known.{given, totalEdgeOf}
 use Rattle.sizes.specs.declared.sums.Sum.the-variants.{After}
 use Rattle.sizes.proofs.Passes.{Going, going-first, going-on, going-last, sizes-none}
 use Rattle.sizes.proofs.Raising.{total-edge-raised}
-use Rattle.sizes.proofs.Values.{value-is}
+use Rattle.size.proofs.Values.{value-is}
 use mathlib.Core.List.{map}
 use native.Mathlib.Omega.{arith}
 use lib.ListN.{getD}
-use Rattle.sizes.specs.Size.{valueOf}
-use Rattle.sizes.specs.declared.size.Size.the-variants.{Bytes}
+use Rattle.size.specs.Size.{valueOf}
+use Rattle.size.specs.declared.Size.the-variants.{Bytes}
 use Rattle.sizes.proofs.Maps.{map-set, map-at}
 use Rattle.sizes.proofs.totals.total_edges.Statement.{statement}
 use Rattle.sizes.proofs.totals.total_edges.Tie as tie

@@ -1,11 +1,11 @@
 use Prim.Native.Nat.{max}
 use mathlib.Core.Path.{ap, _∙_}
 use native.Mathlib.Omega.{arith}
-use Rattle.sizes.specs.Size.{valueOf}
-use Rattle.sizes.proofs.Values.{size-unbounded, size-same}
+use Rattle.size.specs.Size.{valueOf}
+use Rattle.size.proofs.Values.{size-unbounded, size-same}
 use borrow.Author.Needs.{needs}
-use Rattle.sizes.proofs.size.Size.max.Statement.{statement}
-use Rattle.sizes.proofs.size.Size.max.Tie as tie
+use Rattle.size.proofs.Size.max.Statement.{statement}
+use Rattle.size.proofs.Size.max.Tie as tie
 
 enum-told : tie.Need-enum-told
 enum-told c = search needs

@@ -1,9 +1,9 @@
 use mathlib.Core.Path.{ap}
 use native.Mathlib.Omega.{arith}
-use Rattle.sizes.specs.Size.{valueOf}
+use Rattle.size.specs.Size.{valueOf}
 use borrow.Author.Needs.{needs}
-use Rattle.sizes.proofs.size.Size.number.Statement.{statement}
-use Rattle.sizes.proofs.size.Size.number.Tie as tie
+use Rattle.size.proofs.Size.number.Statement.{statement}
+use Rattle.size.proofs.Size.number.Tie as tie
 
 enum-told : tie.Need-enum-told
 enum-told c = search needs

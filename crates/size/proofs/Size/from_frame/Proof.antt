@@ -1,8 +1,8 @@
 use mathlib.Core.Path.{refl}
 use native.Mathlib.Omega.{arith}
-use Rattle.sizes.proofs.Values.{size-bytes, size-unbounded}
-use Rattle.sizes.proofs.size.Size.from_frame.Statement.{statement}
-use Rattle.sizes.proofs.size.Size.from_frame.Tie as tie
+use Rattle.size.proofs.Values.{size-bytes, size-unbounded}
+use Rattle.size.proofs.Size.from_frame.Statement.{statement}
+use Rattle.size.proofs.Size.from_frame.Tie as tie
 
 returns : tie.Need-returns
 returns c = size-unbounded (c .before .args .bytes) (omega arith)

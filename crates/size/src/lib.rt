@@ -1,7 +1,7 @@
 // A size: "either a number of bytes up to 65,535 or unbounded".
 ghost use mathlib.Core.Path.{_≡_};
 ghost use Prim.Native.Nat.{_+_, max};
-ghost use Rattle.sizes.specs.Size.{sizeOf, valueOf};
+ghost use Rattle.size.specs.Size.{sizeOf, valueOf};
 
 pub enum Size {
     Bytes(u32),

@@ -1,11 +1,11 @@
 use Prim.Native.Nat.{_+_}
 use mathlib.Core.Path.{ap}
 use native.Mathlib.Omega.{arith}
-use Rattle.sizes.specs.Size.{valueOf}
-use Rattle.sizes.proofs.Values.{size-bytes, size-unbounded}
+use Rattle.size.specs.Size.{valueOf}
+use Rattle.size.proofs.Values.{size-bytes, size-unbounded}
 use borrow.Author.Needs.{needs}
-use Rattle.sizes.proofs.size.Size.add.Statement.{statement}
-use Rattle.sizes.proofs.size.Size.add.Tie as tie
+use Rattle.size.proofs.Size.add.Statement.{statement}
+use Rattle.size.proofs.Size.add.Tie as tie
 
 enum-told : tie.Need-enum-told
 enum-told c = search needs

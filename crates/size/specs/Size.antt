@@ -2,8 +2,8 @@
 use Prim.Native.Nat.{ℕ, min}
 use mathlib.Core.Bool.{cond}
 use lib.Dec.{ltb}
-use Rattle.sizes.specs.declared.size.Size.{Size}
-use Rattle.sizes.specs.declared.size.Size.the-variants.{Bytes, Unbounded}
+use Rattle.size.specs.declared.Size.{Size}
+use Rattle.size.specs.declared.Size.the-variants.{Bytes, Unbounded}
 
 -- "A size is either a number of bytes up to 65,535 or unbounded. Unbounded is above every number." It is written as 65,536.
 abbrev pub unbounded : ℕ

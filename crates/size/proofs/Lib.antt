@@ -1,0 +1,2 @@
+-- For the crates above: laws of sizes as numbers.
+pub mod Values
