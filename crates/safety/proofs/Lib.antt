@@ -1,0 +1,4 @@
+-- For the crates above.
+pub mod Laws
+-- How the promises come about.
+mod Cuts

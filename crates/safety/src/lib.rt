@@ -1,0 +1,1 @@
+// Safety of a choice. Document 01, "Safety".
