@@ -42,10 +42,10 @@ module _ (g : Program) (w : WellFormed g) (s u : ℕ → ℕ) (le : (x : ℕ) �
   before-le stop = omega arith
   before-le (step q e) = all-le q (w .edge-together _ _ e .from-exists)
 
-  front-le : {a n : ℕ} (q : Path g a n) → n < g .nodes → afterSum s q ≤ afterSum u q
+  pub front-le : {a n : ℕ} (q : Path g a n) → n < g .nodes → afterSum s q ≤ afterSum u q
   front-le {a} q h = omega (arith, after-le q h, node-le 1 a (omega arith) (start-exists q h))
 
-  back-le : {n b : ℕ} (q : Path g n b) → n < g .nodes → beforeSum s q ≤ beforeSum u q
+  pub back-le : {n b : ℕ} (q : Path g n b) → n < g .nodes → beforeSum s q ≤ beforeSum u q
   back-le {n} {b} q h = omega (arith, before-le q, node-le 2 b (omega arith) (path-exists g w q h))
 
 -- ---- smaller choices
@@ -68,6 +68,7 @@ module _ (g : Program) (w : WellFormed g) (c : ℕ → ℕ) where
     where
       post-exists : (f : ℕ) → GivesBack g f → 4 * f + 1 < entries g
       post-exists f h = omega (arith, w .target-exists (h .0) (h .1), h .3)
+
       one : ((x : ℕ) → x < entries g → s x ≤ safe .sizes x) → {a p n b : ℕ} (front : Path g a p) (e : g .edge p n ≡ true) (back : Path g n b) → Open (safe .set) (cut front e back) → afterSum s front ≡ unbounded → beforeSum s back ≡ unbounded → ⊥
       one le {p = p} {n = n} front e back o x y =
           let t = w .edge-together p n e in

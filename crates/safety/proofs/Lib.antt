@@ -2,3 +2,5 @@
 pub mod Laws
 -- How the promises come about.
 mod Cuts
+mod Testing
+mod Judging

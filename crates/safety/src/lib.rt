@@ -1,1 +1,115 @@
 // Safety of a choice. Document 01, "Safety".
+use size::Size;
+use sizes::Known;
+use sizes::admit::admit;
+use sizes::find::find;
+use sizes::find::write_sizes;
+use table::Counts;
+use table::program;
+ghost use mathlib.Core.Path.{_≡_};
+ghost use mathlib.Core.List.{map};
+ghost use Prim.Native.Nat.{_≤_};
+ghost use lib.ListN.{length};
+ghost use Rattle.table.specs.Answer.{Ready};
+ghost use Rattle.table.specs.Program.{programOf};
+ghost use Rattle.sync.specs.Answer.{Sets};
+ghost use Rattle.size.specs.Size.{valueOf};
+ghost use Rattle.sizes.specs.Call.{choiceOf};
+ghost use Rattle.sizes.specs.Known.{call};
+ghost use Rattle.safety.specs.Safety.{Safe};
+ghost use Rattle.safety.specs.Call.{Answers, LeavesSizes};
+ghost use Rattle.safety.specs.Test.{PostsBelow, EdgesBounded, Tells};
+
+// What the call for one choice comes to: `Answers` in specs/Call.antt says what each case stands for.
+pub enum Answer {
+    IsSafe,
+    IsUnsafe,
+    Refused(u32, usize),
+}
+
+// Condition 1: whether Post of the target of every spawn is 0.
+fn posts_zero(t: &[u8], of: Counts, sizes: [Size; 2304]) -> bool
+    requires { ⌜ Ready (now t) of ⌝ }
+    ensures { λ r. ⌜ Tells r (PostsBelow (programOf (now (t .entry))) (choiceOf (map valueOf sizes)) (of .nodes)) ⌝ }
+{
+    let mut n: usize = 0;
+    while n < of.nodes {
+        let at = n;
+        n += 1;
+        if program::sort(t, of, at) == 2 {
+            let post = sizes[4 * program::target_of(t, of, at) + 1];
+            if post.number() != 0 {
+                return false;
+            }
+        }
+    }
+    true
+}
+
+// Condition 2: whether no edge has unbounded sums on both sides.
+fn edges_bounded(t: &[u8], of: Counts, after: &[u32], before: &[u32]) -> bool
+    requires { ⌜ Ready (now t) of × (length (now after) ≡ 512) × (length (now before) ≡ 512) ⌝ }
+    ensures { λ r. ⌜ Tells r (EdgesBounded (programOf (now (t .entry))) (choiceOf (now (after .entry))) (choiceOf (now (before .entry)))) ⌝ }
+{
+    let mut e: usize = 0;
+    while e < of.edges {
+        let p = program::edge_from(t, of, e);
+        let n = program::edge_to(t, of, e);
+        e += 1;
+        if after[p] == 65536 {
+            if before[n] == 65536 {
+                return false;
+            }
+        }
+    }
+    true
+}
+
+// Whether both conditions hold.
+fn both_hold(t: &[u8], of: Counts, sizes: [Size; 2304], after: &[u32], before: &[u32]) -> bool
+    requires { ⌜ Ready (now t) of × (length (now after) ≡ 512) × (length (now before) ≡ 512) ⌝ }
+    ensures { λ r. ⌜ Tells r (PostsBelow (programOf (now (t .entry))) (choiceOf (map valueOf sizes)) (of .nodes) × EdgesBounded (programOf (now (t .entry))) (choiceOf (now (after .entry))) (choiceOf (now (before .entry)))) ⌝ }
+{
+    if posts_zero(t, of, sizes) {
+        return edges_bounded(t, of, after, before);
+    }
+    false
+}
+
+// Whether a choice is safe, for the search above: nothing is written.
+pub fn is_safe(t: &[u8], choice: &[u8], known: Known) -> bool
+    requires { ⌜ Ready (now t) (known .of) × Sets (programOf (now t)) (known .synchronising) (known .reached) ⌝ }
+    ensures { λ r. ⌜ Tells r (Safe (programOf (now (t .entry))) (choiceOf (now (choice .entry)))) ⌝ }
+{
+    let mut after = [0u32; 512];
+    let mut before = [0u32; 512];
+    let mut passes: u32 = 0;
+    let sizes = find(t, choice, known, &mut after, &mut before, &mut passes);
+    both_hold(t, known.of, sizes, &after, &before)
+}
+
+// The call for one choice: says whether it is safe, and writes its sizes.
+pub fn safety(t: &[u8], choice: &[u8], out: &mut [u32]) -> Answer
+    ensures { λ r. ⌜ Answers (call (now (t .entry)) (now (choice .entry)) (length (now (out .entry)))) r ⌝ }
+    ensures { λ r. ⌜ LeavesSizes (now (t .entry)) (now (choice .entry)) (now (out .entry)) r (now (out .exit)) ⌝ }
+{
+    let admitted = admit(t, choice, out.len());
+    let known = admitted.known;
+    let answer = admitted.answer;
+    match answer {
+        sizes::Answer::Refused(number, place) => Answer::Refused(number, place),
+        sizes::Answer::Done => {
+            let mut after = [0u32; 512];
+            let mut before = [0u32; 512];
+            let mut passes: u32 = 0;
+            let found = find(t, choice, known, &mut after, &mut before, &mut passes);
+            let count = 4 * (known.of.functions + known.of.nodes);
+            write_sizes(found, count, out);
+            if both_hold(t, known.of, found, &after, &before) {
+                Answer::IsSafe
+            } else {
+                Answer::IsUnsafe
+            }
+        }
+    }
+}

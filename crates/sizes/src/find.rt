@@ -45,7 +45,7 @@ fn write_sums(sums: [Size; 512], out: &mut [u32])
 }
 
 // Writes the first sizes as numbers.
-pub(crate) fn write_sizes(sizes: [Size; 2304], count: usize, out: &mut [u32])
+pub fn write_sizes(sizes: [Size; 2304], count: usize, out: &mut [u32])
     requires { ⌜ (count ≤ 2304) × (count ≤ length (now out)) ⌝ }
     ensures { λ _. ⌜ Written count (at (map valueOf sizes)) (now (out .entry)) (now (out .exit)) ⌝ }
 {

@@ -1,0 +1,64 @@
+-- From the two tests to safety, and back.
+use Prim.Native.Nat.{ℕ, _+_, _*_, _<_, _≤_}
+use mathlib.Core.Path.{_≡_, sym, ap, _∙_, subst, fun-ext}
+use mathlib.Core.Bool.{Bool, true, false}
+use mathlib.Core.List.{List}
+use native.Mathlib.Omega.{arith}
+use Rattle.table.specs.Record.{spawn}
+use Rattle.table.specs.Program.{Program}
+use Rattle.table.specs.WellFormed.{WellFormed}
+use Rattle.sync.specs.Paths.{Path, Open}
+use Rattle.sync.specs.Synchronising.{Synchronising}
+use Rattle.sync.proofs.Laws.{synchronising-unique}
+use Rattle.size.specs.Size.{unbounded}
+use Rattle.sizes.specs.Rules.{entries, Least}
+use Rattle.sizes.specs.Sums.{afterSum, beforeSum}
+use Rattle.sizes.specs.Answer.{SizesOf}
+use Rattle.sizes.proofs.Laws.{sizes-unique}
+use Rattle.safety.specs.Safety.{GivesBack, cut, CutsBounded, Safe}
+use Rattle.safety.specs.Test.{PostsBelow, EdgesBounded, Tells}
+use Rattle.safety.proofs.Cuts.{edges-cuts, cuts-edges}
+use Rattle.safety.proofs.Laws.{front-le, back-le}
+
+module _ (g : Program) (w : WellFormed g) (set : ℕ → Bool) (set-is : Synchronising g set) (c s after before : ℕ → ℕ) (x : SizesOf g set c s after before) where
+  pub safe-from : PostsBelow g s (g .nodes) → EdgesBounded g after before → Safe g c
+  safe-from p b = record {
+    set = set;
+    set-is = set-is;
+    sizes = s;
+    sizes-are = x .least;
+    posts-zero = λ f h. ap (λ (i : ℕ). s (4 * i + 1)) (h .3) ∙ p .zero-below (h .0) (h .1) (h .2);
+    cuts-bounded = edges-cuts g set w s after before (x .after-is) (x .before-is) b;
+  }
+
+  module _ (safe : Safe g c) where
+    set-same : safe .set ≡ set
+    set-same = fun-ext (synchronising-unique g (safe .set) (safe .set-is) set set-is)
+
+    same : (i : ℕ) → i < entries g → s i ≡ safe .sizes i
+    same = sizes-unique g c s (safe .sizes) (set, set-is, x .least) (safe .set, safe .set-is, safe .sizes-are)
+
+    pub safe-posts : PostsBelow g s (g .nodes)
+    safe-posts = record {
+      zero-below = λ n h e. same (4 * g .target n + 1) (omega (arith, w .target-exists n h)) ∙ safe .posts-zero (g .target n) (n, h, e, λ i. g .target n);
+    }
+
+    pub safe-edges : EdgesBounded g after before
+    safe-edges = cuts-edges g set w s after before (x .after-is) (x .before-is) (record { bounded = λ front e back o u v. one front e back o u v })
+      where
+        le : (i : ℕ) → i < entries g → s i ≤ safe .sizes i
+        le i h = omega (arith, same i h)
+
+        one : {a p n b : ℕ} (front : Path g a p) (e : g .edge p n ≡ true) (back : Path g n b) → Open set (cut front e back) → afterSum s front ≡ unbounded → beforeSum s back ≡ unbounded → ⊥
+        one {p = p} {n = n} front e back o u v =
+            let t = w .edge-together p n e in
+            safe .cuts-bounded .bounded front e back (subst (λ (z : ℕ → Bool). Open z (cut front e back)) (sym set-same) o)
+            (omega (arith, front-le g w s (safe .sizes) le front (t .from-exists)))
+            (omega (arith, back-le g w s (safe .sizes) le back (t .to-exists)))
+
+  -- so the tests tell whether the choice is safe
+  pub tells-safe : (nodes : ℕ) {r : Bool} → nodes ≡ g .nodes → Tells r (PostsBelow g s nodes × EdgesBounded g after before) → Tells r (Safe g c)
+  tells-safe nodes e t = record {
+    yes-if = λ q. let h = t .yes-if q in safe-from (subst (PostsBelow g s) e (h .0)) (h .1);
+    only-if = λ safe. t .only-if (subst (PostsBelow g s) (sym e) (safe-posts safe), safe-edges safe);
+  }
