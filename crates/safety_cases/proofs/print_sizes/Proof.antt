@@ -1,0 +1,50 @@
+use native.Mathlib.Omega.{arith}
+use lib.ListN.{length-take}
+use borrow.Author.Needs.{needs}
+use Rattle.safety_cases.proofs.print_sizes.Statement.{statement}
+use Rattle.safety_cases.proofs.print_sizes.Tie as tie
+
+check-requires : tie.Need-check-requires
+check-requires c κs = search needs
+
+enum-known-of : tie.Need-enum-known-of
+enum-known-of c = search needs
+
+enum-told : tie.Need-enum-told
+enum-told c = search needs
+
+returns : tie.Need-returns
+returns c = search needs
+
+least-requires : tie.Need-least-requires
+least-requires c κs = search needs
+
+mul-to : tie.Need-mul-to
+mul-to c = search needs
+
+slice-aggregate-print-rows : tie.Need-slice-aggregate-print-rows
+slice-aggregate-print-rows c = search needs
+
+slice-aggregate-print-rows-2 : tie.Need-slice-aggregate-print-rows-2
+slice-aggregate-print-rows-2 c = simp length-take (omega arith)
+
+print-rows-requires : tie.Need-print-rows-requires
+print-rows-requires c κs = search needs
+
+returns-2 : tie.Need-returns-2
+returns-2 c = search needs
+
+pub print-sizes-spec : {M : Type 1} → statement M
+print-sizes-spec =
+    tie.close
+    (tie.spec
+    check-requires
+    enum-known-of
+    enum-told
+    returns
+    least-requires
+    mul-to
+    slice-aggregate-print-rows
+    slice-aggregate-print-rows-2
+    print-rows-requires
+    returns-2)
