@@ -1,21 +1,19 @@
 -- From the two tests to safety, and back.
 use Prim.Native.Nat.{ℕ, _+_, _*_, _<_, _≤_}
 use mathlib.Core.Path.{_≡_, sym, ap, _∙_, subst, fun-ext}
-use mathlib.Core.Bool.{Bool, true, false}
-use mathlib.Core.List.{List}
+use mathlib.Core.Bool.{Bool, true}
 use native.Mathlib.Omega.{arith}
-use Rattle.table.specs.Record.{spawn}
 use Rattle.table.specs.Program.{Program}
 use Rattle.table.specs.WellFormed.{WellFormed}
 use Rattle.sync.specs.Paths.{Path, Open}
 use Rattle.sync.specs.Synchronising.{Synchronising}
 use Rattle.sync.proofs.Laws.{synchronising-unique}
 use Rattle.size.specs.Size.{unbounded}
-use Rattle.sizes.specs.Rules.{entries, Least}
+use Rattle.sizes.specs.Rules.{entries}
 use Rattle.sizes.specs.Sums.{afterSum, beforeSum}
 use Rattle.sizes.specs.Answer.{SizesOf}
 use Rattle.sizes.proofs.Laws.{sizes-unique}
-use Rattle.safety.specs.Safety.{GivesBack, cut, CutsBounded, Safe}
+use Rattle.safety.specs.Safety.{cut, Safe}
 use Rattle.safety.specs.Test.{PostsBelow, EdgesBounded, Tells}
 use Rattle.safety.proofs.Cuts.{edges-cuts, cuts-edges}
 use Rattle.safety.proofs.Laws.{front-le, back-le}

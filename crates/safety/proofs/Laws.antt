@@ -1,6 +1,6 @@
 -- What the crates above may use of safety: smaller choices are safe too, unmerged everywhere is safe, and only the program counts.
 use Prim.Native.Nat.{ℕ, _+_, _*_, _%_, _<_, _≤_}
-use mathlib.Core.Path.{_≡_, refl, sym, ap, subst, fun-ext}
+use mathlib.Core.Path.{_≡_, refl, subst, fun-ext}
 use mathlib.Core.Bool.{Bool, true, cond}
 use mathlib.Core.List.{List}
 use native.Mathlib.Omega.{arith}
@@ -15,7 +15,7 @@ use Rattle.sync.specs.Paths.{Path, stop, step, Open}
 use Rattle.sync.specs.Synchronising.{Synchronising}
 use Rattle.sync.proofs.Laws.{synchronising-unique}
 use Rattle.sync.proofs.Paths.{path-exists}
-use Rattle.size.specs.Size.{unbounded, cap}
+use Rattle.size.specs.Size.{unbounded}
 use Rattle.sizes.specs.Rules.{through, ofNode, sum, sumAfter, sumBefore, entries, Meets, Least, LeastSizes}
 use Rattle.sizes.specs.Sums.{afterSum, beforeSum}
 use Rattle.sizes.proofs.Laws.{AtMost, sizes-grow}

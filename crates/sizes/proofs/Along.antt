@@ -13,9 +13,9 @@ use Rattle.table.specs.Answer.{Ready}
 use Rattle.table.specs.Program.{programOf}
 use Rattle.table.proofs.Ready.{few-functions, few-nodes, functions-are, nodes-are, edge-is}
 use Rattle.size.specs.Size.{unbounded, cap}
-use Rattle.sizes.specs.System.{size, along, kindFor, starts, from, to, turn, pick, start, step-on, startForm}
+use Rattle.sizes.specs.System.{along, kindFor, starts, from, to, turn, pick, start, step-on, startForm}
 use Rattle.sizes.specs.Causes.{offset, at, Raised}
-use Rattle.sizes.specs.Passes.{Values, Summed, putSums, valueAt, Held, Pass}
+use Rattle.sizes.specs.Passes.{Summed, putSums, Held, Pass}
 use Rattle.sizes.specs.Known.{given, edgeAt, stepOn, stepOf}
 use Rattle.sizes.specs.declared.Known.{Known}
 use Rattle.sizes.specs.declared.sums.Sum.{Sum}

@@ -1,5 +1,5 @@
 -- The checks of a call with a choice and a sizes buffer, one after another.
-use Prim.Native.Nat.{ℕ, _+_, _*_, _<_, _≤_}
+use Prim.Native.Nat.{ℕ, _<_, _≤_}
 use mathlib.Core.Path.{_≡_, refl, sym, ap, _∙_, subst}
 use mathlib.Core.Bool.{Bool, true, false, true≢false, not, cond, _&&_, _||_}
 use mathlib.Core.List.{List, List·Memᴰ·head, List·Memᴰ·tail}
@@ -7,7 +7,7 @@ use mathlib.Core.Option.{Option, none, some, Option·some-ne-none}
 use native.Mathlib.Omega.{arith}
 use lib.Dec.{eqb, leb}
 use lib.ListN.{length, drop}
-use borrow.Author.Tests.{eq-eqb, ne-eqb, eqb-true, lt-ltb, le-ltb, ltb-false, leb-true, not-true, not-false}
+use borrow.Author.Tests.{eq-eqb, ne-eqb, eqb-true, lt-ltb, le-ltb, ltb-false, leb-true, not-false}
 use Rattle.table.specs.Below.{earliest}
 use Rattle.table.specs.Record.{spawn}
 use Rattle.table.specs.Refusal.{Refusal, refusedAt, refusal}

@@ -15,10 +15,10 @@ use Rattle.table.proofs.Ready.{few-functions, few-nodes}
 use Rattle.size.specs.Size.{unbounded}
 use Rattle.sizes.specs.System.{Entry, size, along, Form, formOf, gives}
 use Rattle.sizes.specs.Causes.{Given, RuleOf, offset, entryCount, entryAt, Ok, at, Chain, uncaused, Raised, kept, risen, leapt}
-use Rattle.sizes.specs.Passes.{Values, sums, valueAt, putSums, putSizes, room, roomOf, State, Passed, Held, Sized, Summed, Pass, Can}
+use Rattle.sizes.specs.Passes.{Values, sums, valueAt, putSums, putSizes, room, roomOf, State, Passed, Held, Summed, Pass, Can}
 use Rattle.sizes.specs.declared.sums.Sum.{Sum}
 use Rattle.sizes.specs.declared.sums.Sum.the-variants.{After, Before, Through}
-use Rattle.sizes.proofs.Rises.{In, here, Put, PutCause, entry-size, entry-along, der-le, risen-ok, leapt-ok}
+use Rattle.sizes.proofs.Rises.{In, here, Put, PutCause, entry-size, entry-along, risen-ok, leapt-ok}
 
 room-set : (l : List ℕ) (i v : ℕ) → i < length l → room (set l i v) + (unbounded - at l i) ≡ room l + (unbounded - v)
 room-set [] i v h = absurd (omega arith)

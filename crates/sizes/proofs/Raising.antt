@@ -1,6 +1,6 @@
 -- What each pass over sizes raises, rule by rule.
 use Prim.Native.Nat.{ℕ, _+_, _*_, _/_, _%_, _<_, _≤_}
-use mathlib.Core.Path.{_≡_, refl, sym, ap, _∙_}
+use mathlib.Core.Path.{_≡_, refl, ap, _∙_}
 use mathlib.Core.Bool.{true}
 use mathlib.Core.List.{List}
 use native.Mathlib.Omega.{arith}
@@ -12,9 +12,9 @@ use Rattle.table.proofs.Ready.{few-functions, few-nodes, functions-are, nodes-a
 use Rattle.sync.specs.Words.{member}
 use Rattle.size.specs.Size.{unbounded, cap}
 use Rattle.sizes.specs.Rules.{frameOf}
-use Rattle.sizes.specs.System.{size, along, kindFor, ending, ends, due, taken, end, total-node, total-edge, target-of, endForm, totalNodeForm}
+use Rattle.sizes.specs.System.{size, kindFor, ending, ends, due, taken, end, total-node, total-edge, target-of, endForm, totalNodeForm}
 use Rattle.sizes.specs.Causes.{offset, at, Raised}
-use Rattle.sizes.specs.Passes.{Values, Sized, Summed, putSizes, valueAt, Held, Pass}
+use Rattle.sizes.specs.Passes.{Sized, Summed, putSizes, Held, Pass}
 use Rattle.sizes.specs.Known.{given, totalEdgeOf, targetOn, targetAt}
 use Rattle.sizes.specs.declared.Known.{Known}
 use Rattle.sizes.specs.declared.sums.Sum.{Sum}

@@ -6,10 +6,9 @@ use mathlib.Core.List.{List, [], _∷_}
 use mathlib.Core.Logic.{_≢_}
 use native.Mathlib.Omega.{arith}
 use native.Mathlib.Decide.{ℕ-discrete, decLe, decLt}
-use lib.Dec.{ltb}
 use borrow.Author.Tests.{lt-ltb, le-ltb}
 use Rattle.size.specs.Size.{unbounded, cap}
-use Rattle.sizes.specs.System.{Entry, size, along, Form, formOf, sumOf, gives, Der, none, rule}
+use Rattle.sizes.specs.System.{Entry, size, along, formOf, sumOf, gives, none, rule}
 use Rattle.sizes.specs.Causes.{Given, RuleOf, DerOf, offset, entryCount, entryAt, Lead, Ok, Chain, met, via}
 use Rattle.sizes.specs.declared.sums.Sum.{Sum}
 use Rattle.sizes.specs.declared.sums.Sum.the-variants.{After, Before, Through}

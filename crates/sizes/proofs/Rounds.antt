@@ -1,6 +1,6 @@
 -- Passes one after another, and what a round of all of them shows.
-use Prim.Native.Nat.{ℕ, _+_, _*_, _<_, _≤_}
-use mathlib.Core.Path.{_≡_, refl, sym, ap, _∙_, subst}
+use Prim.Native.Nat.{ℕ, _+_, _*_, _<_}
+use mathlib.Core.Path.{_≡_, refl, _∙_, subst}
 use mathlib.Core.Bool.{true}
 use mathlib.Core.List.{List, []}
 use native.Mathlib.Omega.{arith}
@@ -8,12 +8,12 @@ use Rattle.table.specs.Program.{programOf}
 use Rattle.sync.specs.Words.{member}
 use Rattle.sizes.specs.System.{starts, ends, startForm, endForm, totalNodeForm}
 use Rattle.sizes.specs.Causes.{Given}
-use Rattle.sizes.specs.Passes.{Values, sums, putSums, putSizes, roomOf, State, Passed, Held, Sized, Summed, Pass, Can}
+use Rattle.sizes.specs.Passes.{Values, putSums, putSizes, roomOf, State, Passed, Held, Sized, Summed, Pass, Can}
 use Rattle.sizes.specs.Known.{given, stepOn, stepOf, totalEdgeOf, targetOn, targetAt, SumsHeld, FunctionsHeld, AllHeld}
 use Rattle.sizes.specs.declared.Known.{Known}
 use Rattle.sizes.specs.declared.sums.Sum.{Sum}
 use Rattle.sizes.specs.declared.sums.Sum.the-variants.{After, Before, Through}
-use Rattle.sizes.proofs.Passes.{sums-put, sizes-put, sums-kept}
+use Rattle.sizes.proofs.Passes.{sums-put, sizes-put}
 
 module _ {S : Given} where
   -- one pass after another: what the second shows holds at the start, since then nothing has changed

@@ -14,7 +14,7 @@ use Rattle.sizes.proofs.Ahead.{open-ahead}
 use Rattle.sizes.proofs.Derived.{derived-has}
 use Rattle.size.specs.Size.{cap, unbounded}
 use Rattle.sizes.specs.Rules.{total, post, pre, through, frameOf, sum, sumAfter, sumBefore, Meets, Least}
-use Rattle.sizes.specs.System.{Entry, size, along, functionEntry, nodeEntry, start, step-on, end, total-node, total-edge, target-of, taken, Der, none, rule, Solved}
+use Rattle.sizes.specs.System.{Entry, size, along, functionEntry, nodeEntry, start, step-on, end, total-node, total-edge, target-of, Der, none, rule, Solved}
 use Rattle.sizes.specs.declared.sums.Sum.the-variants.{After, Before, Through}
 use Rattle.sizes.proofs.Taking.{takes-call, takes-unguarded, takes-merged, taken-call, taken-spawn}
 use Rattle.sizes.specs.Sums.{Ahead, LargestAfter, LargestBefore}

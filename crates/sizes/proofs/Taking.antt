@@ -1,11 +1,11 @@
 -- When a size of a node rests on its target, in the words of document 01.
 use Prim.Native.Nat.{ℕ, _≤_}
-use mathlib.Core.Path.{_≡_, refl, sym, _∙_}
-use mathlib.Core.Bool.{Bool, true, false, true≢false, _&&_, _||_}
-use mathlib.Core.Logic.{_⊎_, inl, inr, ⊎-elim}
+use mathlib.Core.Path.{_≡_, refl}
+use mathlib.Core.Bool.{true, false, _&&_, _||_}
+use mathlib.Core.Logic.{_⊎_, ⊎-elim}
 use native.Mathlib.Omega.{arith}
 use lib.Dec.{eqb, leb}
-use borrow.Author.Tests.{eqb-true, eq-eqb, ne-eqb, leb-true, le-leb}
+use borrow.Author.Tests.{eqb-true, ne-eqb, leb-true, le-leb}
 use Rattle.table.specs.Record.{call, spawn}
 use Rattle.table.specs.Program.{Program}
 use Rattle.table.proofs.Booleans.{either-way, and-true-left, and-true-right, or-true, or-true-right}

@@ -6,7 +6,6 @@ use Rattle.size.proofs.Values.{value-le}
 use Rattle.sizes.proofs.Maps.{map-set, map-at}
 use borrow.Author.Needs.{needs}
 use Prim.Native.Nat.{_-_}
-use mathlib.Core.Path.{ap}
 use mathlib.Core.List.{map}
 use native.Mathlib.Omega.{arith}
 use Rattle.table.specs.Program.{programOf}

@@ -7,7 +7,6 @@ use Rattle.sizes.proofs.Passes.{Going, going-first, going-on, going-off
 use Rattle.sizes.proofs.Raising.{target-raised}
 use Rattle.size.proofs.Values.{value-le}
 use mathlib.Core.List.{map}
-use native.Mathlib.Omega.{arith}
 use lib.ListN.{getD}
 use Rattle.size.specs.Size.{valueOf}
 use Rattle.size.specs.declared.Size.the-variants.{Bytes}

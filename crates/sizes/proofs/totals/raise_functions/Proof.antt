@@ -2,7 +2,6 @@ use mathlib.Core.Path.{_∙_}
 use mathlib.Core.List.{map}
 use Rattle.size.specs.Size.{valueOf}
 use Rattle.sizes.proofs.Rounds.{can-posts, can-pres, can-throughs, can-nodes, can-edges, functions-passed}
-use borrow.Author.Needs.{needs}
 use Rattle.sizes.proofs.totals.raise_functions.Statement.{statement}
 use Rattle.sizes.proofs.totals.raise_functions.Tie as tie
 
