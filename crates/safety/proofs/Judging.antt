@@ -14,7 +14,7 @@ use Rattle.sizes.specs.Sums.{afterSum, beforeSum}
 use Rattle.sizes.specs.Answer.{SizesOf}
 use Rattle.sizes.proofs.Laws.{sizes-unique}
 use Rattle.safety.specs.Safety.{cut, Safe}
-use Rattle.safety.specs.Test.{PostsBelow, EdgesBounded, Tells}
+use Rattle.safety.specs.Test.{PostsBelow, EdgesBounded, Tells, Judged}
 use Rattle.safety.proofs.Cuts.{edges-cuts, cuts-edges}
 use Rattle.safety.proofs.Laws.{front-le, back-le}
 
@@ -55,8 +55,12 @@ module _ (g : Program) (w : WellFormed g) (set : ℕ → Bool) (set-is : Synchro
             (omega (arith, back-le g w s (safe .sizes) le back (t .to-exists)))
 
   -- so the tests tell whether the choice is safe
-  pub tells-safe : (nodes : ℕ) {r : Bool} → nodes ≡ g .nodes → Tells r (PostsBelow g s nodes × EdgesBounded g after before) → Tells r (Safe g c)
-  tells-safe nodes e t = record {
-    yes-if = λ q. let h = t .yes-if q in safe-from (subst (PostsBelow g s) e (h .0)) (h .1);
-    only-if = λ safe. t .only-if (subst (PostsBelow g s) (sym e) (safe-posts safe), safe-edges safe);
+  pub judged : (nodes : ℕ) {r : Bool} → nodes ≡ g .nodes → Tells r (PostsBelow g s nodes × EdgesBounded g after before) → Judged g c r
+  judged nodes e t = record {
+    tells = record {
+      yes-if = λ q. let h = t .yes-if q in safe-from (subst (PostsBelow g s) e (h .0)) (h .1);
+      only-if = λ safe. t .only-if (subst (PostsBelow g s) (sym e) (safe-posts safe), safe-edges safe);
+    };
+    sizes = s;
+    sizes-are = (set, set-is, x .least);
   }

@@ -52,7 +52,7 @@ module _ (g : Program) (w : WellFormed g) (s u : ℕ → ℕ) (le : (x : ℕ) �
 
 module _ (g : Program) (w : WellFormed g) (c : ℕ → ℕ) where
   -- with the program's own set and the least sizes, which are the only ones
-  safe-below : (set : ℕ → Bool) (s : ℕ → ℕ) → Synchronising g set → Least g set c s → (d : ℕ → ℕ) → AtMost c d → Safe g d → Safe g c
+  safe-below : (set : ℕ → Bool) (s : ℕ → ℕ) → Synchronising g set → Least g set c s → (d : ℕ → ℕ) → AtMost g c d → Safe g d → Safe g c
   safe-below set s z l d b safe =
       let e = fun-ext (synchronising-unique g set z (safe .set) (safe .set-is)) in
       let m = subst (λ (v : ℕ → Bool). Least g v c s) e l in
@@ -75,7 +75,7 @@ module _ (g : Program) (w : WellFormed g) (c : ℕ → ℕ) where
           safe .cuts-bounded .bounded front e back o (omega (arith, front-le g w s (safe .sizes) le front (t .from-exists))) (omega (arith, back-le g w s (safe .sizes) le back (t .to-exists)))
 
 -- a choice at or below a safe one is safe
-pub safe-smaller : (g : Program) → WellFormed g → (c d s : ℕ → ℕ) → LeastSizes g c s → AtMost c d → Safe g d → Safe g c
+pub safe-smaller : (g : Program) → WellFormed g → (c d s : ℕ → ℕ) → LeastSizes g c s → AtMost g c d → Safe g d → Safe g c
 safe-smaller g w c d s l b safe = safe-below g w c (l .0) s (l .1) (l .2) d b safe
 
 -- safety depends on the program only: edges in another order, or repeated, give the same

@@ -5,6 +5,8 @@ use mathlib.Core.Bool.{Bool, true}
 use Rattle.table.specs.Record.{spawn}
 use Rattle.table.specs.Program.{Program}
 use Rattle.size.specs.Size.{unbounded}
+use Rattle.sizes.specs.Rules.{LeastSizes}
+use Rattle.safety.specs.Safety.{Safe}
 
 -- Post of the target of every spawn below n is 0
 pub record PostsBelow (g : Program) (sizes : ℕ → ℕ) (n : ℕ) : Type 0 where
@@ -18,3 +20,9 @@ pub record EdgesBounded (g : Program) (after before : ℕ → ℕ) : Type 0 wher
 pub record Tells (r : Bool) (P : Type 0) : Type 0 where
   pub yes-if : r ≡ true → P
   pub only-if : P → r ≡ true
+
+-- what the test of a choice says; and the choice has sizes
+pub record Judged (g : Program) (choice : ℕ → ℕ) (r : Bool) : Type 0 where
+  pub tells : Tells r (Safe g choice)
+  pub sizes : ℕ → ℕ
+  pub sizes-are : LeastSizes g choice sizes

@@ -3,7 +3,7 @@ use size::Size;
 use sizes::Known;
 use sizes::admit::admit;
 use sizes::find::find;
-use sizes::find::write_sizes;
+use sizes::find::put;
 use table::Counts;
 use table::program;
 ghost use mathlib.Core.Path.{_≡_};
@@ -16,9 +16,8 @@ ghost use Rattle.sync.specs.Answer.{Sets};
 ghost use Rattle.size.specs.Size.{valueOf};
 ghost use Rattle.sizes.specs.Call.{choiceOf};
 ghost use Rattle.sizes.specs.Known.{call};
-ghost use Rattle.safety.specs.Safety.{Safe};
 ghost use Rattle.safety.specs.Call.{Answers, LeavesSizes};
-ghost use Rattle.safety.specs.Test.{PostsBelow, EdgesBounded, Tells};
+ghost use Rattle.safety.specs.Test.{PostsBelow, EdgesBounded, Tells, Judged};
 
 // What the call for one choice comes to: `Answers` in specs/Call.antt says what each case stands for.
 pub enum Answer {
@@ -76,15 +75,14 @@ fn both_hold(t: &[u8], of: Counts, sizes: [Size; 2304], after: &[u32], before: &
     false
 }
 
-// Whether a choice is safe, for the search above: nothing is written.
-pub fn is_safe(t: &[u8], choice: &[u8], known: Known) -> bool
+// Whether a choice is safe, for the search above: no size is written, and it counts the passes that finding them took.
+pub fn is_safe(t: &[u8], choice: &[u8], known: Known, passes: &mut u32) -> bool
     requires { ⌜ Ready (now t) (known .of) × Sets (programOf (now t)) (known .synchronising) (known .reached) ⌝ }
-    ensures { λ r. ⌜ Tells r (Safe (programOf (now (t .entry))) (choiceOf (now (choice .entry)))) ⌝ }
+    ensures { λ r. ⌜ Judged (programOf (now (t .entry))) (choiceOf (now (choice .entry))) r ⌝ }
 {
     let mut after = [0u32; 512];
     let mut before = [0u32; 512];
-    let mut passes: u32 = 0;
-    let sizes = find(t, choice, known, &mut after, &mut before, &mut passes);
+    let sizes = find(t, choice, known, &mut after, &mut before, passes);
     both_hold(t, known.of, sizes, &after, &before)
 }
 
@@ -101,10 +99,7 @@ pub fn safety(t: &[u8], choice: &[u8], out: &mut [u32]) -> Answer
         sizes::Answer::Done => {
             let mut after = [0u32; 512];
             let mut before = [0u32; 512];
-            let mut passes: u32 = 0;
-            let found = find(t, choice, known, &mut after, &mut before, &mut passes);
-            let count = 4 * (known.of.functions + known.of.nodes);
-            write_sizes(found, count, out);
+            let found = put(t, choice, known, &mut after, &mut before, out);
             if both_hold(t, known.of, found, &after, &before) {
                 Answer::IsSafe
             } else {

@@ -21,7 +21,7 @@ use Rattle.table.proofs.Below.{first-some, first-none, earliest-passed}
 use Rattle.table.proofs.Refusals.{refusal-pass, refusal-here, refusal-none, not-applied, refusal-over-none, refusal-over-some}
 use Rattle.sizes.specs.Choice.{unmerged, unguarded, ChoiceFor}
 use Rattle.sizes.specs.Rules.{entries}
-use Rattle.sizes.specs.Call.{Call, choiceOf, wrongLength, outside, tooShort, choiceChecks, callChecks, Result, done, refused, resultFor, result}
+use Rattle.sizes.specs.Call.{Call, choiceOf, wrongLength, outside, tooShort, sizesRow, choiceChecks, callChecks, Result, done, refused, resultFor, result, resultOf}
 use Rattle.sizes.specs.Known.{AdmittedFor}
 use Rattle.sizes.specs.declared.Answer.{Answer}
 use Rattle.sizes.specs.declared.Answer.the-variants.{Done, Refused}
@@ -93,9 +93,6 @@ pub admitted : (t : List ℕ) (answer : Answer) (known : Known) → Ready t (kno
 admitted t Done known r s = (r, s)
 admitted t (Refused n p) known r s = tt
 
-pub admitted-done : (t : List ℕ) (answer : Answer) (known : Known) → answer ≡ Done → AdmittedFor t answer known → Ready t (known .of) × Sets (programOf t) (known .synchronising) (known .reached)
-admitted-done t answer known e = subst (λ (a : Answer). AdmittedFor t a known) e
-
 -- ---- a call that is not refused
 
 ruleset in-list = (List·Memᴰ·head, List·Memᴰ·tail)
@@ -145,7 +142,7 @@ module _ (x : Call) where
     unfolding choiceChecks tooShort
     buffer-fits =
         ltb-false _ _
-        (not-applied (tooShort x) (entries (programOf (x .table))) (refusal-none x choiceChecks e (record { number = 11; place = λ y. cond (tooShort y) (some (entries (programOf (y .table)))) none }) (search in-list depth 40)))
+        (not-applied (tooShort (x .table) (x .buffer)) (entries (programOf (x .table))) (refusal-none x choiceChecks e (sizesRow (λ (y : Call). y .table) (λ (y : Call). y .buffer)) (search in-list depth 40)))
 
 -- a byte that is not outside its list
 byte-listed : (t choice : List ℕ) (n : ℕ) → outside t choice n ≡ false → ((eqb (programOf t .sort n) spawn && leb unmerged (choiceOf choice n) && leb (choiceOf choice n) unguarded) || (not (eqb (programOf t .sort n) spawn) && eqb (choiceOf choice n) 0)) ≡ true
@@ -188,3 +185,16 @@ done-valid x e =
       };
       fits = buffer-fits x c;
     }
+
+-- what an admitted call has: nothing is refused, and its table is known
+pub record Admission (x : Call) (known : Known) : Type 0 where
+  pub done-is : done ≡ result x
+  pub valid : Valid x
+  pub ready : Ready (x .table) (known .of)
+  pub sets : Sets (programOf (x .table)) (known .synchronising) (known .reached)
+
+pub admission : (x : Call) (answer : Answer) (known : Known) → answer ≡ Done → resultOf answer ≡ result x → AdmittedFor (x .table) answer known → Admission x known
+admission x answer known e r a =
+    let d = sym (ap resultOf e) ∙ r in
+    let k = subst (λ (b : Answer). AdmittedFor (x .table) b known) e a in
+    record { done-is = d; valid = done-valid x d; ready = k .0; sets = k .1 }

@@ -13,13 +13,13 @@ use Rattle.size.specs.Size.{unbounded}
 use Rattle.sizes.specs.Rules.{entries, Meets, Least, LeastSizes}
 
 -- One choice is at or below another, node by node.
-abbrev pub AtMost : (ℕ → ℕ) → (ℕ → ℕ) → Type 0
-AtMost c d = (n : ℕ) → c n ≤ d n
+abbrev pub AtMost : Program → (ℕ → ℕ) → (ℕ → ℕ) → Type 0
+AtMost g c d = (n : ℕ) → n < g .nodes → c n ≤ d n
 
 module _ (g : Program) where
   module _ (set : ℕ → Bool) where
     -- a larger choice's rules include a smaller one's
-    pub meets-smaller : (c d s : ℕ → ℕ) → AtMost c d → Meets g set d s → Meets g set c s
+    pub meets-smaller : (c d s : ℕ → ℕ) → AtMost g c d → Meets g set d s → Meets g set c s
     meets-smaller c d s b m = record {
       sized = m .sized;
       total-node = m .total-node;
@@ -28,8 +28,8 @@ module _ (g : Program) where
       pre-path = m .pre-path;
       through-path = m .through-path;
       calls = m .calls;
-      merged = λ n h e q. m .merged n h e (omega (arith, b n));
-      unguarded = λ n h e q. m .unguarded n h e (omega (arith, b n));
+      merged = λ n h e q. m .merged n h e (omega (arith, b n h));
+      unguarded = λ n h e q. m .unguarded n h e (omega (arith, b n h));
     }
 
     -- "A table of nothing but "unbounded" meets the rules too": there is always one that does
@@ -46,21 +46,21 @@ module _ (g : Program) where
       unguarded = λ n h e m k l. omega arith;
     }
 
-    least-grows : (c d s u : ℕ → ℕ) → AtMost c d → Least g set c s → Least g set d u → (x : ℕ) → x < entries g → s x ≤ u x
+    least-grows : (c d s u : ℕ → ℕ) → AtMost g c d → Least g set c s → Least g set d u → (x : ℕ) → x < entries g → s x ≤ u x
     least-grows c d s u b p q x h = p .least u (meets-smaller c d u b (q .meets)) x h
 
   same-set : (set other : ℕ → Bool) (c s : ℕ → ℕ) → Synchronising g set → Synchronising g other → Least g other c s → Least g set c s
   same-set set other c s p q l = subst (λ (v : ℕ → Bool). Least g v c s) (fun-ext (synchronising-unique g other q set p)) l
 
   -- so least sizes grow with the choice
-  pub sizes-grow : (c d s u : ℕ → ℕ) → AtMost c d → LeastSizes g c s → LeastSizes g d u → (x : ℕ) → x < entries g → s x ≤ u x
+  pub sizes-grow : (c d s u : ℕ → ℕ) → AtMost g c d → LeastSizes g c s → LeastSizes g d u → (x : ℕ) → x < entries g → s x ≤ u x
   sizes-grow c d s u b p q = least-grows (p .0) c d s u b (p .2) (same-set (p .0) (q .0) d u (p .1) (q .1) (q .2))
 
   -- and at most one table is least
   pub sizes-unique : (c s u : ℕ → ℕ) → LeastSizes g c s → LeastSizes g c u → (x : ℕ) → x < entries g → s x ≡ u x
   sizes-unique c s u p q x h =
       omega
-      (arith, sizes-grow c c s u (λ n. omega arith) p q x h, sizes-grow c c u s (λ n. omega arith) q p x h)
+      (arith, sizes-grow c c s u (λ n l. omega arith) p q x h, sizes-grow c c u s (λ n l. omega arith) q p x h)
 
 -- the least sizes depend on the program only: edges in another order, or repeated, give the same
 pub sizes-same : (t u : List ℕ) → SameButEdges t u → (c s : ℕ → ℕ) → LeastSizes (programOf t) c s → LeastSizes (programOf u) c s

@@ -39,15 +39,19 @@ outside t choice n =
     || (not (eqb (programOf t .sort n) spawn) && eqb (choiceOf choice n) 0))
 
 -- 11: "sizes buffer too short"
-unfoldable pub tooShort : Call → Bool
-tooShort x = ltb (x .buffer) (entries (programOf (x .table)))
+unfoldable pub tooShort : List ℕ → ℕ → Bool
+tooShort t buffer = ltb buffer (entries (programOf t))
+
+-- Its row, in any call that is handed a table and a sizes buffer. Place: "length needed".
+abbrev pub sizesRow : {X : Type 0} → (X → List ℕ) → (X → ℕ) → Check X
+sizesRow table buffer = record { number = 11; place = λ x. cond (tooShort (table x) (buffer x)) (some (entries (programOf (table x)))) none }
 
 -- "in 9 a wrong length goes before a wrong byte", "the earliest [..] node"
 unfoldable pub choiceChecks : List (Check Call)
 choiceChecks =
     record { number = 9; place = λ x. cond (wrongLength x) (some (programOf (x .table) .nodes)) none }
     ∷ record { number = 9; place = λ x. earliest (outside (x .table) (x .choice)) (programOf (x .table) .nodes) }
-    ∷ record { number = 11; place = λ x. cond (tooShort x) (some (entries (programOf (x .table)))) none }
+    ∷ sizesRow (λ (x : Call). x .table) (λ (x : Call). x .buffer)
     ∷ []
 
 -- "The lowest number wins": those on the table itself first.

@@ -15,8 +15,11 @@ ghost use Rattle.table.specs.Program.{programOf};
 ghost use Rattle.sync.specs.Words.{member};
 ghost use Rattle.sync.specs.Answer.{Sets};
 ghost use Rattle.size.specs.Size.{valueOf};
+ghost use Rattle.sizes.specs.Rules.{entries};
 ghost use Rattle.sizes.specs.Answer.{SizesOf, Written};
+ghost use Rattle.sizes.specs.Call.{Leaves};
 ghost use Rattle.sizes.specs.Causes.{at};
+ghost use Rattle.sizes.specs.declared.Answer.the-variants.{Done};
 
 // "every entry starts from zero"
 fn zero_sizes() -> [Size; 2304]
@@ -45,7 +48,7 @@ fn write_sums(sums: [Size; 512], out: &mut [u32])
 }
 
 // Writes the first sizes as numbers.
-pub fn write_sizes(sizes: [Size; 2304], count: usize, out: &mut [u32])
+fn write_sizes(sizes: [Size; 2304], count: usize, out: &mut [u32])
     requires { ⌜ (count ≤ 2304) × (count ≤ length (now out)) ⌝ }
     ensures { λ _. ⌜ Written count (at (map valueOf sizes)) (now (out .entry)) (now (out .exit)) ⌝ }
 {
@@ -164,4 +167,25 @@ pub fn find(
         before,
         passes,
     )
+}
+
+// Finds the least sizes of a choice, and writes them.
+pub fn put(
+    t: &[u8],
+    choice: &[u8],
+    known: Known,
+    after: &mut [u32],
+    before: &mut [u32],
+    out: &mut [u32],
+) -> [Size; 2304]
+    requires { ⌜ Ready (now t) (known .of) × Sets (programOf (now t)) (known .synchronising) (known .reached) ⌝ }
+    requires { ⌜ (512 ≤ length (now after)) × (512 ≤ length (now before)) × (entries (programOf (now t)) ≤ length (now out)) ⌝ }
+    ensures { λ r. ⌜ SizesOf (programOf (now (t .entry))) (member (known .synchronising)) (at (now (choice .entry))) (at (map valueOf r)) (at (now (after .exit))) (at (now (before .exit))) ⌝ }
+    ensures { λ r. ⌜ Leaves (now (t .entry)) (now (choice .entry)) (now (out .entry)) Done (now (out .exit)) ⌝ }
+{
+    let mut passes: u32 = 0;
+    let found = find(t, choice, known, after, before, &mut passes);
+    let count = 4 * (known.of.functions + known.of.nodes);
+    write_sizes(found, count, out);
+    found
 }

@@ -8,8 +8,7 @@ mod targets;
 mod totals;
 
 use admit::admit;
-use find::find;
-use find::write_sizes;
+use find::put;
 use table::Counts;
 ghost use mathlib.Core.Path.{_≡_};
 ghost use lib.ListN.{length};
@@ -42,10 +41,7 @@ pub fn sizes(t: &[u8], choice: &[u8], out: &mut [u32]) -> Answer
         Answer::Done => {
             let mut after = [0u32; 512];
             let mut before = [0u32; 512];
-            let mut passes: u32 = 0;
-            let found = find(t, choice, known, &mut after, &mut before, &mut passes);
-            let count = 4 * (known.of.functions + known.of.nodes);
-            write_sizes(found, count, out);
+            put(t, choice, known, &mut after, &mut before, out);
             Answer::Done
         }
     }

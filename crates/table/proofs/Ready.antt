@@ -4,12 +4,13 @@ use mathlib.Core.Path.{_≡_, refl, sym, ap, ap₂, _∙_}
 use mathlib.Core.List.{List}
 use mathlib.Core.Bool.{true}
 use native.Mathlib.Omega.{arith}
+use lib.Dec.{eqb}
 use Rattle.table.specs.Record.{sortOf, fieldA, fieldB, fieldC, edgeRecord, edgeFrom, edgeTo}
 use Rattle.table.specs.Answer.{Ready}
 use Rattle.table.specs.Program.{programOf}
 use Rattle.table.specs.WellFormed.{WellFormed}
 use Rattle.table.specs.declared.Counts.{Counts}
-use Rattle.table.proofs.Laws.{well-formed, few-edges, functions-read, nodes-read, first-read, exit-read, frame-read, sort-read, owner-read, target-read, edge-read}
+use Rattle.table.proofs.Laws.{well-formed, few-edges, functions-read, nodes-read, entry-read, first-read, exit-read, frame-read, sort-read, owner-read, target-read, edge-read}
 
 module _ (t : List ℕ) (c : Counts) (r : Ready t c) where
   formed : WellFormed (programOf t)
@@ -39,6 +40,9 @@ module _ (t : List ℕ) (c : Counts) (r : Ready t c) where
   edge-is e h = edge-read t _ _ (e, omega (arith, r .counts-are .edges-are), refl, refl)
 
   -- what the readers give, from the field that they read
+  pub entry-given : (f x : ℕ) → f < c .functions → x ≡ sortOf t f → eqb x 1 ≡ programOf t .entry f
+  entry-given f x h e = ap (λ (s : ℕ). eqb s 1) e ∙ sym (entry-read t f (omega (arith, r .counts-are .functions-are)))
+
   pub first-given : (f x : ℕ) → f < c .functions → x ≡ fieldA t f → (x ≡ programOf t .first f) × (x < c .nodes)
   first-given f x h e =
       let y : x ≡ programOf t .first f = e ∙ sym (first-read t f (omega (arith, r .counts-are .functions-are))) in

@@ -7,6 +7,14 @@ ghost use Rattle.table.specs.Record.{edgeFrom, edgeTo};
 ghost use Rattle.table.specs.Answer.{Ready};
 ghost use Rattle.table.specs.Program.{programOf};
 
+// Whether function f is an entry.
+pub fn is_entry(t: &[u8], of: Counts, f: usize) -> bool
+    requires { ⌜ Ready (now t) of × (f < of .functions) ⌝ }
+    ensures { λ x. ⌜ x ≡ programOf (now (t .entry)) .entry f ⌝ }
+{
+    record::sort(t, f) == 1
+}
+
 // The first node of function f.
 pub fn first(t: &[u8], of: Counts, f: usize) -> usize
     requires { ⌜ Ready (now t) of × (f < of .functions) ⌝ }

@@ -5,7 +5,7 @@ use Rattle.table.proofs.Ready.{nodes-are}
 use Rattle.sync.specs.Words.{member}
 use Rattle.size.specs.Size.{valueOf}
 use Rattle.sizes.specs.Call.{choiceOf}
-use Rattle.safety.proofs.Judging.{tells-safe}
+use Rattle.safety.proofs.Judging.{judged}
 use borrow.Author.Needs.{needs}
 use Rattle.safety.proofs.is_safe.Statement.{statement}
 use Rattle.safety.proofs.is_safe.Tie as tie
@@ -32,7 +32,7 @@ returns : tie.Need-returns
 returns c =
     let a = c .before .before .before .before .before .before .before .before .before .before .before .args in
     let p = c .before .before .before .before .before .before .before .before .before .before .before .pre in
-    tells-safe (programOf (a .t .now)) (well-formed (a .t .now) (p .0 .accepted-is)) (member (a .known .synchronising)) (p .1 .set) (choiceOf (a .choice .now)) (choiceOf (map valueOf (c .before .before .before .before .before .find .result))) _ _ (c .before .before .before .before .before .find .ensures) (a .known .of .nodes) (nodes-are (a .t .now) (a .known .of) (p .0)) (c .both-hold .ensures)
+    judged (programOf (a .t .now)) (well-formed (a .t .now) (p .0 .accepted-is)) (member (a .known .synchronising)) (p .1 .set) (choiceOf (a .choice .now)) (choiceOf (map valueOf (c .before .before .before .before .before .find .result))) _ _ (c .before .before .before .before .before .find .ensures) (a .known .of .nodes) (nodes-are (a .t .now) (a .known .of) (p .0)) (c .both-hold .ensures)
 
 pub is-safe-spec : {M : Type 1} → statement M
 is-safe-spec =
