@@ -18,7 +18,7 @@ use Rattle.sync.proofs.Paths.{path-exists}
 use Rattle.size.specs.Size.{unbounded}
 use Rattle.sizes.specs.Rules.{through, ofNode, sum, sumAfter, sumBefore, entries, Meets, Least, LeastSizes}
 use Rattle.sizes.specs.Sums.{afterSum, beforeSum}
-use Rattle.sizes.proofs.Laws.{AtMost, sizes-grow}
+use Rattle.sizes.proofs.Laws.{AtMost, meets-smaller, sizes-grow}
 use Rattle.safety.specs.Safety.{GivesBack, cut, Safe}
 
 module _ (g : Program) (w : WellFormed g) (s u : ℕ → ℕ) (le : (x : ℕ) → x < entries g → s x ≤ u x) where
@@ -77,6 +77,20 @@ module _ (g : Program) (w : WellFormed g) (c : ℕ → ℕ) where
 -- a choice at or below a safe one is safe
 pub safe-smaller : (g : Program) → WellFormed g → (c d s : ℕ → ℕ) → LeastSizes g c s → AtMost g c d → Safe g d → Safe g c
 safe-smaller g w c d s l b safe = safe-below g w c (l .0) s (l .1) (l .2) d b safe
+
+-- safety asks for the verdicts of the nodes there are, and for no more
+pub safe-alike : (g : Program) (c d : ℕ → ℕ) → ((n : ℕ) → n < g .nodes → c n ≡ d n) → Safe g c → Safe g d
+safe-alike g c d e safe = record {
+  set = safe .set;
+  set-is = safe .set-is;
+  sizes = safe .sizes;
+  sizes-are = record {
+    meets = meets-smaller g (safe .set) d c (safe .sizes) (λ n h. omega (arith, e n h)) (safe .sizes-are .meets);
+    least = λ other m. safe .sizes-are .least other (meets-smaller g (safe .set) c d other (λ n h. omega (arith, e n h)) m);
+  };
+  posts-zero = safe .posts-zero;
+  cuts-bounded = safe .cuts-bounded;
+}
 
 -- safety depends on the program only: edges in another order, or repeated, give the same
 pub safe-same : (t u : List ℕ) → SameButEdges t u → (c : ℕ → ℕ) → Safe (programOf t) c → Safe (programOf u) c

@@ -2,10 +2,9 @@
 use Prim.Native.Nat.{ℕ, _+_, _*_, _<_, _≤_}
 use mathlib.Core.Path.{_≡_, refl, sym, ap, _∙_}
 use mathlib.Core.Bool.{Bool, true, false, true≢false}
-use mathlib.Core.List.{List, map}
+use mathlib.Core.List.{List}
 use native.Mathlib.Omega.{arith}
 use native.Mathlib.Decide.{ℕ-discrete}
-use lib.ListN.{getD, List·getD-map}
 use Rattle.table.specs.Record.{spawn, edges, edgeFrom, edgeTo}
 use Rattle.table.specs.Answer.{Ready}
 use Rattle.table.specs.Program.{Program, programOf}
@@ -13,9 +12,7 @@ use Rattle.table.specs.declared.Counts.{Counts}
 use Rattle.table.proofs.Booleans.{not-both}
 use Rattle.table.proofs.Laws.{edge-which}
 use Rattle.table.proofs.Ready.{edge-is}
-use Rattle.size.specs.Size.{unbounded, valueOf}
-use Rattle.size.specs.declared.Size.{Size}
-use Rattle.size.specs.declared.Size.the-variants.{Bytes}
+use Rattle.size.specs.Size.{unbounded}
 use Rattle.sizes.specs.Call.{choiceOf}
 use Rattle.safety.specs.Test.{PostsBelow, EdgesBounded, Tells}
 
@@ -32,10 +29,6 @@ tells-both p q = record { yes-if = λ e. (p, q .yes-if e); only-if = λ h. q .on
 
 pub tells-first : {P Q : Type 0} {r : Bool} → Tells r P → r ≡ false → Tells false (P × Q)
 tells-first {r = r} p e = tells-no (λ h. not-both r (p .only-if (h .0)) e)
-
--- an element of the values is the value of the element
-pub value-at : (l : List Size) (i : ℕ) → valueOf (getD l i (Bytes 0)) ≡ choiceOf (map valueOf l) i
-value-at l i = sym (List·getD-map valueOf l i (Bytes 0))
 
 module _ (g : Program) (sizes : ℕ → ℕ) where
   pub posts-none : PostsBelow g sizes 0

@@ -2,7 +2,7 @@
 use Prim.Native.Nat.{ℕ, _<_, _≤_}
 use mathlib.Core.Path.{_≡_, refl, sym, ap, _∙_, subst}
 use mathlib.Core.Bool.{Bool, true, false, true≢false, not, cond, _&&_, _||_}
-use mathlib.Core.List.{List, List·Memᴰ·head, List·Memᴰ·tail}
+use mathlib.Core.List.{List, _++_, map, List·Memᴰ·head, List·Memᴰ·tail}
 use mathlib.Core.Option.{Option, none, some, Option·some-ne-none}
 use native.Mathlib.Omega.{arith}
 use lib.Dec.{eqb, leb}
@@ -10,7 +10,7 @@ use lib.ListN.{length, drop}
 use borrow.Author.Tests.{eq-eqb, ne-eqb, eqb-true, lt-ltb, le-ltb, ltb-false, leb-true, not-false}
 use Rattle.table.specs.Below.{earliest}
 use Rattle.table.specs.Record.{spawn}
-use Rattle.table.specs.Refusal.{Refusal, refusedAt, refusal}
+use Rattle.table.specs.Refusal.{Check, Refusal, over, refusedAt, refusal}
 use Rattle.table.specs.Checks.{checks, Accepted}
 use Rattle.table.specs.Program.{programOf}
 use Rattle.table.specs.Answer.{Ready}
@@ -27,23 +27,44 @@ use Rattle.sizes.specs.declared.Answer.{Answer}
 use Rattle.sizes.specs.declared.Answer.the-variants.{Done, Refused}
 use Rattle.sizes.specs.declared.Known.{Known}
 
+-- ---- any list of checks
+
+abbrev pub isDone : Result → Bool
+isDone done = true
+isDone (refused n p) = false
+
+module _ {X : Type 0} (cs : List (Check X)) (x : X) where
+  pub told-refused : (n p : ℕ) → refusal cs x ≡ some (refusedAt n p) → refused n p ≡ resultFor (refusal cs x)
+  unfolding resultFor
+  told-refused n p e = ap resultFor (sym e)
+
+  pub told-done : refusal cs x ≡ none → done ≡ resultFor (refusal cs x)
+  unfolding resultFor
+  told-done e = ap resultFor (sym e)
+
+  pub none-refused : done ≡ resultFor (refusal cs x) → refusal cs x ≡ none
+  unfolding resultFor
+  none-refused e = go (refusal cs x) refl
+    where
+      go : (o : Option Refusal) → refusal cs x ≡ o → refusal cs x ≡ none
+      go none q = q
+      go (some r) q = absurd (true≢false (ap isDone (e ∙ ap resultFor q)))
+
+-- where those on the table come first, it is accepted if none applies
+pub table-accepted : {X : Type 0} (table : X → List ℕ) (cs : List (Check X)) (x : X) → refusal (map (over table) checks ++ cs) x ≡ none → Accepted (table x)
+table-accepted table cs x e = go (refusal checks (table x)) refl
+  where
+    go : (o : Option Refusal) → refusal checks (table x) ≡ o → refusal checks (table x) ≡ none
+    go none q = q
+    go (some r) q = absurd (Option·some-ne-none r (sym (refusal-over-some table cs x checks q) ∙ e))
+
+-- ---- the checks of a call with a choice
+
 module _ (x : Call) where
-  told : (o : Option Refusal) → refusal callChecks x ≡ o → resultFor o ≡ result x
-  unfolding result
-  told o e = ap resultFor (sym e)
-
-  pub told-refused : (n p : ℕ) → refusal callChecks x ≡ some (refusedAt n p) → refused n p ≡ result x
-  unfolding resultFor
-  told-refused n p e = told (some (refusedAt n p)) e
-
-  told-done : refusal callChecks x ≡ none → done ≡ result x
-  unfolding resultFor
-  told-done e = told none e
-
   -- a check on the table decides first
   pub table-refused : (n p : ℕ) → refusal checks (x .table) ≡ some (refusedAt n p) → refused n p ≡ result x
-  unfolding callChecks
-  table-refused n p e = told-refused n p (refusal-over-some (λ (y : Call). y .table) choiceChecks x checks e)
+  unfolding result callChecks
+  table-refused n p e = told-refused callChecks x n p (refusal-over-some (λ (y : Call). y .table) choiceChecks x checks e)
 
   past-table : Accepted (x .table) → refusal callChecks x ≡ refusal choiceChecks x
   unfolding callChecks
@@ -55,9 +76,9 @@ module _ (x : Call) where
 
   module _ (a : Accepted (x .table)) where
     pub length-refused : (nodes : ℕ) → nodes ≡ programOf (x .table) .nodes → (length (x .choice) ≡ nodes → ⊥) → refused 9 nodes ≡ result x
-    unfolding choiceChecks wrongLength
+    unfolding result choiceChecks wrongLength
     length-refused nodes e h =
-        told-refused 9 nodes
+        told-refused callChecks x 9 nodes
         (past-table a ∙ refusal-here x _ _ (rw (ne-eqb (length (x .choice)) (programOf (x .table) .nodes) (λ q. h (q ∙ sym e)), e) refl))
 
     past-length : length (x .choice) ≡ programOf (x .table) .nodes → refusal callChecks x ≡ refusal (drop 1 choiceChecks) x
@@ -66,8 +87,8 @@ module _ (x : Call) where
 
     module _ (h : length (x .choice) ≡ programOf (x .table) .nodes) (n : ℕ) (f : First (outside (x .table) (x .choice)) (programOf (x .table) .nodes) n) where
       pub byte-refused : n < programOf (x .table) .nodes → refused 9 n ≡ result x
-      unfolding choiceChecks
-      byte-refused l = told-refused 9 n (past-length h ∙ refusal-here x _ _ (first-some _ _ n f l))
+      unfolding result choiceChecks
+      byte-refused l = told-refused callChecks x 9 n (past-length h ∙ refusal-here x _ _ (first-some _ _ n f l))
 
       past-bytes : programOf (x .table) .nodes ≤ n → refusal callChecks x ≡ refusal (drop 2 choiceChecks) x
       unfolding choiceChecks
@@ -75,10 +96,10 @@ module _ (x : Call) where
 
       module _ (l : programOf (x .table) .nodes ≤ n) (needed : ℕ) (e : needed ≡ entries (programOf (x .table))) where
         pub buffer-refused : x .buffer < needed → refused 11 needed ≡ result x
-        unfolding choiceChecks tooShort
+        unfolding result choiceChecks tooShort
         buffer-refused b =
             let s : x .buffer < entries (programOf (x .table)) = omega arith in
-            told-refused 11 needed (past-bytes l ∙ refusal-here x _ _ (rw (lt-ltb (x .buffer) (entries (programOf (x .table))) s, e) refl))
+            told-refused callChecks x 11 needed (past-bytes l ∙ refusal-here x _ _ (rw (lt-ltb (x .buffer) (entries (programOf (x .table))) s, e) refl))
 
         past-buffer : needed ≤ x .buffer → refusal callChecks x ≡ refusal (drop 3 choiceChecks) x
         unfolding choiceChecks tooShort
@@ -87,7 +108,8 @@ module _ (x : Call) where
             past-bytes l ∙ refusal-pass x _ _ (rw (le-ltb (x .buffer) (entries (programOf (x .table))) s) refl)
 
         pub nothing-refused : needed ≤ x .buffer → done ≡ result x
-        nothing-refused b = told-done (past-buffer b ∙ nothing-left)
+        unfolding result
+        nothing-refused b = told-done callChecks x (past-buffer b ∙ nothing-left)
 
 pub admitted : (t : List ℕ) (answer : Answer) (known : Known) → Ready t (known .of) → Sets (programOf t) (known .synchronising) (known .reached) → AdmittedFor t answer known
 admitted t Done known r s = (r, s)
@@ -97,10 +119,6 @@ admitted t (Refused n p) known r s = tt
 
 ruleset in-list = (List·Memᴰ·head, List·Memᴰ·tail)
 
-abbrev isDone : Result → Bool
-isDone done = true
-isDone (refused n p) = false
-
 -- its table is accepted, its bytes are a choice for it, and the sizes fit
 pub record Valid (x : Call) : Type 0 where
   pub accepted-is : Accepted (x .table)
@@ -109,22 +127,6 @@ pub record Valid (x : Call) : Type 0 where
   pub fits : entries (programOf (x .table)) ≤ x .buffer
 
 module _ (x : Call) where
-  none-refused : done ≡ result x → refusal callChecks x ≡ none
-  unfolding result resultFor
-  none-refused e = go (refusal callChecks x) refl
-    where
-      go : (o : Option Refusal) → refusal callChecks x ≡ o → refusal callChecks x ≡ none
-      go none q = q
-      go (some r) q = absurd (true≢false (ap isDone (e ∙ ap resultFor q)))
-
-  table-accepted : refusal callChecks x ≡ none → Accepted (x .table)
-  unfolding callChecks
-  table-accepted e = go (refusal checks (x .table)) refl
-    where
-      go : (o : Option Refusal) → refusal checks (x .table) ≡ o → refusal checks (x .table) ≡ none
-      go none q = q
-      go (some r) q = absurd (Option·some-ne-none r (sym (refusal-over-some (λ (y : Call). y .table) choiceChecks x checks q) ∙ e))
-
   module _ (e : refusal choiceChecks x ≡ none) where
     length-right : length (x .choice) ≡ programOf (x .table) .nodes
     unfolding choiceChecks wrongLength
@@ -172,9 +174,10 @@ module _ (t choice : List ℕ) (n : ℕ) (e : outside t choice n ≡ false) wher
       other-side true b c d q h = absurd (true≢false q)
 
 pub done-valid : (x : Call) → done ≡ result x → Valid x
+unfolding result callChecks
 done-valid x e =
-    let n = none-refused x e in
-    let a = table-accepted x n in
+    let n = none-refused callChecks x e in
+    let a = table-accepted (λ (y : Call). y .table) choiceChecks x n in
     let c = sym (past-table x a) ∙ n in
     record {
       accepted-is = a;

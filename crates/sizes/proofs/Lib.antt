@@ -1,16 +1,16 @@
--- For the crates above: laws of the rules, and of calls.
+-- For the crates above: laws of the rules, of calls, and of lists that are written.
 pub mod Laws
 pub mod Calls
+pub mod Maps
+pub mod Writing
 -- How the promises come about.
 mod Ahead
 mod Taking
 mod Rises
 mod Passes
-mod Maps
 mod Along
 mod Raising
 mod Rounds
 mod Closing
-mod Writing
 mod Derived
 mod Solved

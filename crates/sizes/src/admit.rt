@@ -11,8 +11,6 @@ ghost use Prim.Native.Nat.{_<_};
 ghost use lib.ListN.{length};
 ghost use Rattle.table.specs.Scan.{First};
 ghost use Rattle.table.specs.Answer.{Ready};
-ghost use Rattle.table.specs.Program.{programOf};
-ghost use Rattle.sync.specs.Answer.{Sets};
 ghost use Rattle.sizes.specs.Call.{outside, result, resultOf};
 ghost use Rattle.sizes.specs.Known.{call, AdmittedFor};
 

@@ -1,5 +1,4 @@
-use Prim.Native.Nat.{_+_, _*_}
-use mathlib.Core.Path.{_≡_, refl, sym, ap, _∙_}
+use mathlib.Core.Path.{refl, sym, ap, _∙_}
 use native.Mathlib.Omega.{arith}
 use lib.ListN.{length}
 use Rattle.sizes.specs.Call.{resultOf}

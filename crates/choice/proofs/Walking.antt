@@ -1,0 +1,162 @@
+-- One spawn more on a walk: what becomes of its verdict.
+use Prim.Native.Nat.{ℕ, suc, _+_, _<_, _≤_}
+use mathlib.Core.Path.{_≡_, refl, sym, ap, _∙_, subst}
+use mathlib.Core.Bool.{Bool, false}
+use mathlib.Core.List.{List}
+use mathlib.Core.Logic.{_⊎_, inl, inr, ⊎-elim}
+use native.Mathlib.Nat.{eq-or-lt-of-le}
+use native.Mathlib.Omega.{arith}
+use native.Mathlib.Decide.{ℕ-discrete}
+use lib.ListN.{length, set, length-set}
+use lib.Seq.{getD-set-same, getD-set-other, set-set, set-getD}
+use borrow.Author.Tests.{eq-eqb, ne-eqb}
+use Rattle.table.specs.Record.{spawn}
+use Rattle.table.specs.Answer.{Ready}
+use Rattle.table.specs.Program.{Program, programOf}
+use Rattle.table.specs.WellFormed.{WellFormed}
+use Rattle.table.specs.declared.Counts.{Counts}
+use Rattle.table.proofs.Booleans.{not-both}
+use Rattle.table.proofs.Ready.{nodes-are}
+use Rattle.sizes.specs.Rules.{LeastSizes}
+use Rattle.sizes.specs.Answer.{Written}
+use Rattle.sizes.specs.Call.{choiceOf}
+use Rattle.safety.specs.Safety.{Safe}
+use Rattle.safety.specs.Test.{Judged}
+use Rattle.safety.proofs.Laws.{safe-smaller, unmerged-safe}
+use Rattle.choice.specs.Preference.{InOrder}
+use Rattle.choice.specs.Walk.{Unmerged, unmergedAt, SafeSized, Tried, raised, kept, Walked}
+
+-- the last of the first i + 1, or one before it
+last-or-before : (j i : ℕ) → j < i + 1 → (j ≡ i) ⊎ (j < i)
+last-or-before j i h = eq-or-lt-of-le (omega arith)
+
+module _ (g : Program) (k : ℕ) (order from : ℕ → ℕ) where
+  pub walked-none : SafeSized g from → Walked g k 0 order from from
+  walked-none s = record {
+    safe = s;
+    moved = λ n h. inl refl;
+    blocked = λ j h. absurd (omega arith);
+  }
+
+  -- What the walk did to n: nothing, or it gave it k.
+  abbrev Moved : ℕ → (ℕ → ℕ) → ℕ → Type 0
+  Moved i to n = (to n ≡ from n) ⊎ ((suc (from n) ≡ k) × (to n ≡ k) × ((j : ℕ) × (j < i) × (order j ≡ n)))
+
+  moved-on : (i : ℕ) (to : ℕ → ℕ) (n : ℕ) → Moved i to n → Moved (i + 1) to n
+  moved-on i to n (inl e) = inl e
+  moved-on i to n (inr (a, b, (j, h, e))) = inr (a, b, (j, omega arith, e))
+
+  -- the next spawn has another verdict than k - 1: it stays
+  pub walked-past : (i : ℕ) (to : ℕ → ℕ) → order i < g .nodes → Walked g k i order from to → (suc (to (order i)) ≡ k → ⊥) → Walked g k (i + 1) order from to
+  walked-past i to x w other = record {
+    safe = w .safe;
+    moved = λ n h. moved-on i to n (w .moved n h);
+    blocked = λ j h a l d s b q r. ⊎-elim (λ (e : j ≡ i). here j e a l (w .moved (order i) x)) (λ (m : j < i). w .blocked j m a l d s b q r) (last-or-before j i h);
+  }
+    where
+      here : (j : ℕ) → j ≡ i → suc (from (order j)) ≡ k → to (order j) < k → Moved i to (order i) → ⊥
+      here j e a l (inl f) = other (omega (arith, f, ap (λ (z : ℕ). from (order z)) e))
+      here j e a l (inr (u, v, m)) = absurd (omega (arith, v, ap (λ (z : ℕ). to (order z)) e))
+
+  module _ (i : ℕ) (to : ℕ → ℕ) (x : order i < g .nodes) (w : Walked g k i order from to) (next : suc (to (order i)) ≡ k) where
+    had : Moved i to (order i) → suc (from (order i)) ≡ k
+    had (inl e) = omega arith
+    had (inr (a, b, m)) = a
+
+    module _ (up : ℕ → ℕ) (here : up (order i) ≡ k) (others : (n : ℕ) → (n ≡ order i → ⊥) → up n ≡ to n) where
+      grows : (n : ℕ) → to n ≤ up n
+      grows n = go (ℕ-discrete n (order i))
+        where
+          go : Dec (n ≡ order i) → to n ≤ up n
+          go (yes e) = omega (arith, ap to e, ap up e)
+          go (no e) = omega (arith, others n e)
+
+      -- it gets k, and the choice is safe
+      pub walked-raised : Safe g up → Walked g k (i + 1) order from up
+      walked-raised s = record {
+        safe = λ z l. s;
+        moved = λ n h. change n h (ℕ-discrete n (order i)) (w .moved n h);
+        blocked = λ j h a l d t b q r. ⊎-elim (λ (e : j ≡ i). absurd (omega (arith, ap (λ (z : ℕ). up (order z)) e))) (λ (m : j < i). still j m a l d t b q r) (last-or-before j i h);
+      }
+        where
+          change : (n : ℕ) → n < g .nodes → Dec (n ≡ order i) → Moved i to n → Moved (i + 1) up n
+          change n h (yes e) m = inr (ap (λ (z : ℕ). suc (from z)) e ∙ had (w .moved (order i) x), ap up e ∙ here, (i, omega arith, sym e))
+          change n h (no e) (inl f) = inl (others n e ∙ f)
+          change n h (no e) (inr (a, b, (j, l, f))) = inr (a, others n e ∙ b, (j, omega arith, f))
+
+          still : (j : ℕ) → j < i → suc (from (order j)) ≡ k → up (order j) < k → (d : ℕ → ℕ) → Safe g d → ((n : ℕ) → n < g .nodes → from n ≤ d n) → ((l : ℕ) → l < j → k ≤ up (order l) → k ≤ d (order l)) → k ≤ d (order j) → ⊥
+          still j m a l d t b q r = w .blocked j m a (omega (arith, grows (order j))) d t b (λ z h y. q z h (omega (arith, grows (order z)))) r
+
+      -- with it the choice would not be safe: it stays, and no safe choice that goes on from here gives it k
+      pub walked-kept : WellFormed g → (s : ℕ → ℕ) → LeastSizes g up s → (Safe g up → ⊥) → Walked g k (i + 1) order from to
+      walked-kept f s l unsafe = record {
+        safe = w .safe;
+        moved = λ n h. moved-on i to n (w .moved n h);
+        blocked = λ j h a z d t b q r. ⊎-elim (λ (e : j ≡ i). unsafe (safe-smaller g f up d s l (below d b j e q r) t)) (λ (m : j < i). w .blocked j m a z d t b q r) (last-or-before j i h);
+      }
+        where
+          below : (d : ℕ → ℕ) → ((n : ℕ) → n < g .nodes → from n ≤ d n) → (j : ℕ) → j ≡ i → ((l : ℕ) → l < j → k ≤ to (order l) → k ≤ d (order l)) → k ≤ d (order j) → (n : ℕ) → n < g .nodes → up n ≤ d n
+          below d b j e q r n h = go (ℕ-discrete n (order i)) (w .moved n h)
+            where
+              go : Dec (n ≡ order i) → Moved i to n → up n ≤ d n
+              go (yes p) m = omega (arith, ap up p, ap d p, ap (λ (z : ℕ). d (order z)) e)
+              go (no p) (inl v) = omega (arith, others n p, b n h)
+              go (no p) (inr (u, v, (z, y, o))) = omega (arith, others n p, q z (omega arith) (omega (arith, ap to o)), ap d o)
+
+-- so a trial takes the walk one spawn further
+module _ (g : Program) (formed : WellFormed g) (k : ℕ) (order from : ℕ → ℕ) (i : ℕ) (old : List ℕ) (x : order i < g .nodes) (fits : order i < length old) where
+  pub walked-tried : (new : List ℕ) → Walked g k i order from (choiceOf old) → suc (choiceOf old (order i)) ≡ k → Tried g (order i) k old new → Walked g k (i + 1) order from (choiceOf new)
+  walked-tried new w next (raised s) = walked-raised g k order from i (choiceOf old) x w next (choiceOf (set old (order i) k)) (getD-set-same old (order i) k 0 fits) (λ n e. getD-set-other old (order i) n k 0 e) s
+  walked-tried new w next (kept s l unsafe) = walked-kept g k order from i (choiceOf old) x w next (choiceOf (set old (order i) k)) (getD-set-same old (order i) k 0 fits) (λ n e. getD-set-other old (order i) n k 0 e) formed s l unsafe
+
+-- ---- the bytes of a walk
+
+-- where its spawns stand among the bytes
+pub order-below : (t : List ℕ) (of : Counts) → Ready t of → (count : ℕ) (order : ℕ → ℕ) → InOrder (programOf t) count order → (i : ℕ) → i < count → order i < of .nodes
+order-below t of r count order o i h = omega (arith, o .spawns i h .exists, nodes-are t of r)
+
+-- the bytes past the nodes are as they were
+pub written-own : (count : ℕ) (l : List ℕ) → Written count (choiceOf l) l l
+written-own count l = record { long = refl; written = λ i h. refl; tail = λ i h. refl }
+
+pub written-tried : (g : Program) (n k count : ℕ) (first old new : List ℕ) → n < count → Tried g n k old new → Written count (choiceOf old) first old → Written count (choiceOf new) first new
+written-tried g n k count first old new h (raised s) w = record {
+  long = length-set old n k ∙ w .long;
+  written = λ i l. refl;
+  tail = λ i l. getD-set-other old n i k 0 (λ e. absurd (omega arith)) ∙ w .tail i l;
+}
+written-tried g n k count first old new h (kept s l unsafe) w = w
+
+pub written-twice : (count : ℕ) (numbers : ℕ → ℕ) (a b c : List ℕ) → Written count numbers a b → Written count (choiceOf c) b c → Written count (choiceOf c) a c
+written-twice count numbers a b c v w = record {
+  long = w .long ∙ v .long;
+  written = λ i h. refl;
+  tail = λ i h. w .tail i h ∙ v .tail i h;
+}
+
+-- a trial that failed leaves the bytes as they were
+pub tried-kept : (g : Program) (n k : ℕ) (old : List ℕ) (r : Bool) → Judged g (choiceOf (set old n k)) r → r ≡ false → Tried g n k old (set (set old n k) n (choiceOf old n))
+tried-kept g n k old r j e =
+    subst (λ (z : List ℕ). Tried g n k old z) (sym (set-set old n k (choiceOf old n) ∙ set-getD old n 0))
+    (kept (j .sizes) (j .sizes-are) (λ safe. not-both r (j .tells .only-if safe) e))
+
+-- ---- unmerged everywhere
+
+pub unmerged-spawn : (g : Program) (n : ℕ) → g .sort n ≡ spawn → unmergedAt g n ≡ 1
+unmerged-spawn g n e = rw (eq-eqb (g .sort n) spawn e) refl
+
+pub unmerged-other : (g : Program) (n : ℕ) → (g .sort n ≡ spawn → ⊥) → unmergedAt g n ≡ 0
+unmerged-other g n e = rw (ne-eqb (g .sort n) spawn e) refl
+
+pub unmerged-written : (g : Program) (old new : List ℕ) (count : ℕ) → count ≡ g .nodes → Written count (unmergedAt g) old new → Unmerged g (choiceOf new)
+unmerged-written g old new count e w = record {
+  spawns = λ n s. w .written n (omega (arith, s .exists)) ∙ unmerged-spawn g n (s .spawns);
+  others = λ n h s. w .written n (omega arith) ∙ unmerged-other g n s;
+}
+
+pub unmerged-sized : (g : Program) (c : ℕ → ℕ) → WellFormed g → Unmerged g c → SafeSized g c
+unmerged-sized g c w u s l = unmerged-safe g c (λ n h. go n h (ℕ-discrete (g .sort n) spawn)) w s l
+  where
+    go : (n : ℕ) → n < g .nodes → Dec (g .sort n ≡ spawn) → c n ≤ 1
+    go n h (yes e) = omega (arith, u .spawns n (record { exists = h; spawns = e }))
+    go n h (no e) = omega (arith, u .others n h e)

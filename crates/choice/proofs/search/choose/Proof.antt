@@ -1,0 +1,63 @@
+use native.Mathlib.Omega.{arith}
+use Rattle.table.proofs.Ready.{few-nodes}
+use Rattle.choice.proofs.Winning.{unmerged-ready, chosen}
+use borrow.Author.Needs.{needs}
+use Rattle.choice.proofs.search.choose.Statement.{statement}
+use Rattle.choice.proofs.search.choose.Tie as tie
+
+slice-aggregate-in-order : tie.Need-slice-aggregate-in-order
+slice-aggregate-in-order c = search needs
+
+in-order-requires : tie.Need-in-order-requires
+in-order-requires c κs = search needs
+
+unmerge-requires : tie.Need-unmerge-requires
+unmerge-requires c κs = search needs
+
+slice-aggregate-walk : tie.Need-slice-aggregate-walk
+slice-aggregate-walk c = search needs
+
+walk-requires : tie.Need-walk-requires
+walk-requires c κs =
+    let a = c .before .before .before .before .before .before .before .before .before .before .before .before .before .args in
+    let p = c .before .before .before .before .before .before .before .before .before .before .before .before .before .pre in
+    let o = c .before .before .before .before .before .before .before .before .before .in-order .ensures in
+    let u = c .before .before .before .before .before .before .unmerge .ensures in
+    (p .0, ((omega (arith, o .0 .0, o .0 .1, few-nodes (a .t .now) (a .known .of) (p .0 .0)), o .1 .0), (omega arith, omega (arith, u .long, p .1), unmerged-ready (a .t .now) (a .known .of) (p .0 .0) u)))
+
+slice-aggregate-walk-2 : tie.Need-slice-aggregate-walk-2
+slice-aggregate-walk-2 c = search needs
+
+walk-requires-2 : tie.Need-walk-requires-2
+walk-requires-2 c κs =
+    let a = c .before .before .before .before .before .before .before .before .before .before .before .before .before .before .before .before .before .before .before .before .args in
+    let p = c .before .before .before .before .before .before .before .before .before .before .before .before .before .before .before .before .before .before .before .before .pre in
+    let o = c .before .before .before .before .before .before .before .before .before .before .before .before .before .before .before .before .in-order .ensures in
+    let u = c .before .before .before .before .before .before .before .before .before .before .before .before .before .unmerge .ensures in
+    let w = c .before .before .before .before .before .before .walk .ensures in
+    (p .0, ((omega (arith, o .0 .0, o .0 .1, few-nodes (a .t .now) (a .known .of) (p .0 .0)), o .1 .0), (omega arith, omega (arith, u .long, w .1 .long, p .1), w .0 .safe)))
+
+same-length : tie.Need-same-length
+same-length c = search needs
+
+returns : tie.Need-returns
+returns c =
+    let a = c .before .before .before .before .before .before .before .before .before .before .before .before .before .before .before .before .before .before .before .before .before .before .before .args in
+    let p = c .before .before .before .before .before .before .before .before .before .before .before .before .before .before .before .before .before .before .before .before .before .before .before .pre in
+    let one = c .before .before .before .before .before .before .before .before .before .walk .ensures in
+    let two = c .before .before .walk2 .ensures in
+    chosen (a .t .now) (a .known .of) (p .0 .0) (c .before .before .before .before .before .before .before .before .before .before .before .before .before .before .before .before .before .before .before .in-order .result) _ (c .before .before .before .before .before .before .before .before .before .before .before .before .before .before .before .before .before .before .before .in-order .ensures .1 .0) (c .before .before .before .before .before .before .before .before .before .before .before .before .before .before .before .before .unmerge .ensures) (one .1) (two .1) (one .0) (two .0)
+
+pub choose-spec : {M : Type 1} → statement M
+choose-spec =
+    tie.close
+    (tie.spec
+    slice-aggregate-in-order
+    in-order-requires
+    unmerge-requires
+    slice-aggregate-walk
+    walk-requires
+    slice-aggregate-walk-2
+    walk-requires-2
+    same-length
+    returns)

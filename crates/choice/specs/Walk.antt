@@ -1,0 +1,46 @@
+-- The two walks of the search for the best choice. Helps proofs only.
+use Prim.Native.Nat.{ℕ, suc, _<_, _≤_}
+use mathlib.Core.Path.{_≡_}
+use mathlib.Core.Bool.{cond}
+use mathlib.Core.List.{List}
+use mathlib.Core.Logic.{_⊎_}
+use lib.Dec.{eqb}
+use lib.ListN.{set}
+use Rattle.table.specs.Record.{spawn}
+use Rattle.table.specs.Program.{Program}
+use Rattle.sizes.specs.Choice.{unmerged}
+use Rattle.sizes.specs.Rules.{LeastSizes}
+use Rattle.sizes.specs.Answer.{Written}
+use Rattle.sizes.specs.Call.{choiceOf}
+use Rattle.safety.specs.Safety.{Safe}
+use Rattle.choice.specs.Preference.{IsSpawn}
+use Rattle.choice.specs.Beats.{Returned}
+
+-- unmerged everywhere
+pub record Unmerged (g : Program) (c : ℕ → ℕ) : Type 0 where
+  pub spawns : (n : ℕ) → IsSpawn g n → c n ≡ unmerged
+  pub others : (n : ℕ) → n < g .nodes → (g .sort n ≡ spawn → ⊥) → c n ≡ 0
+
+abbrev pub unmergedAt : Program → ℕ → ℕ
+unmergedAt g n = cond (eqb (g .sort n) spawn) unmerged 0
+
+-- c is safe, once it has sizes
+abbrev pub SafeSized : Program → (ℕ → ℕ) → Type 0
+SafeSized g c = (s : ℕ → ℕ) → LeastSizes g c s → Safe g c
+
+-- one trial: spawn n has got verdict k and the choice is safe, or it would not be and nothing has changed
+pub data Tried (g : Program) (n k : ℕ) (old : List ℕ) : List ℕ → Type 0 where
+  raised : Safe g (choiceOf (set old n k)) → Tried g n k old (set old n k)
+  kept : (s : ℕ → ℕ) → LeastSizes g (choiceOf (set old n k)) s → (Safe g (choiceOf (set old n k)) → ⊥) → Tried g n k old old
+
+-- A walk that has gone over the first i spawns of the order: each that had one less has verdict k, or no safe choice that does for those
+-- before it what the walk did gives it k.
+pub record Walked (g : Program) (k i : ℕ) (order from to : ℕ → ℕ) : Type 0 where
+  pub safe : SafeSized g to
+  pub moved : (n : ℕ) → n < g .nodes → (to n ≡ from n) ⊎ ((suc (from n) ≡ k) × (to n ≡ k) × ((j : ℕ) × (j < i) × (order j ≡ n)))
+  pub blocked : (j : ℕ) → j < i → suc (from (order j)) ≡ k → to (order j) < k → (d : ℕ → ℕ) → Safe g d → ((n : ℕ) → n < g .nodes → from n ≤ d n) → ((l : ℕ) → l < j → k ≤ to (order l) → k ≤ d (order l)) → k ≤ d (order j) → ⊥
+
+-- the choice to return stands in the first bytes, once it has sizes
+pub record Chosen (g : Program) (old new : List ℕ) : Type 0 where
+  pub returned : (s : ℕ → ℕ) → LeastSizes g (choiceOf new) s → Returned g (choiceOf new)
+  pub written : Written (g .nodes) (choiceOf new) old new
