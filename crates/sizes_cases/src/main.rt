@@ -2,72 +2,6 @@
 use libc::STDOUT_FILENO;
 use script::least;
 use sizes::Answer;
-use table::Checked;
-ghost use mathlib.Core.Path.{_≡_};
-ghost use lib.ListN.{length};
-
-// What the sizes buffer holds before each run. It is no size, so what is left of it can be counted.
-const OLD: u32 = 77777;
-
-// Room for the sizes of the largest table, 4 × (64 + 512), and a tail.
-fn old_buffer() -> [u32; 2400]
-    ensures { λ r. ⌜ 2400 ≡ length r ⌝ }
-{
-    [OLD; 2400]
-}
-
-fn print_number(n: usize) {
-    io::print_decimal(STDOUT_FILENO, n as u64);
-}
-
-// Number `at` of rows of four sizes: the row's letter and number go before its first, a line feed after its last.
-fn print_entry(letter: &[u8], at: usize, x: u32) {
-    if at % 4 == 0 {
-        io::write_all(STDOUT_FILENO, letter);
-        print_number(at / 4);
-    }
-    io::write_all(STDOUT_FILENO, b" ");
-    report::size(x);
-    if at % 4 == 3 {
-        io::write_all(STDOUT_FILENO, b"\n");
-    }
-}
-
-fn print_rows(letter: &[u8], rows: &[u32]) {
-    let mut at: usize = 0;
-    while at < rows.len() {
-        print_entry(letter, at, rows[at]);
-        at += 1;
-    }
-}
-
-// A row for each function and then each node of the table, as far as the buffer goes.
-fn print_sizes(t: &[u8], out: &[u32]) {
-    let Checked::Accepted(of) = table::check(t) else {
-        return;
-    };
-    let rows = out.len() / 4;
-    let functions = least(of.functions, rows);
-    let nodes = least(of.nodes, rows - functions);
-    let from = functions * 4;
-    let to = from + nodes * 4;
-    print_rows(b"  F ", &out[..from]);
-    print_rows(b"  N ", &out[from..to]);
-}
-
-// How many places of the buffer have their old content.
-fn kept(out: &[u32]) -> usize {
-    let mut count: usize = 0;
-    let mut i: usize = 0;
-    while i < out.len() {
-        let x = out[i];
-        i += 1;
-        if x == OLD {
-            count += 1;
-        }
-    }
-    count
-}
 
 // One run: what the call answers, the sizes where it is done, and how much of the buffer it left.
 fn show(name: &[u8], t: &[u8], choice: &[u8], out: &mut [u32]) {
@@ -76,7 +10,8 @@ fn show(name: &[u8], t: &[u8], choice: &[u8], out: &mut [u32]) {
     match sizes::sizes(t, choice, out) {
         Answer::Done => {
             io::write_all(STDOUT_FILENO, b"done\n");
-            print_sizes(t, out);
+            report::functions(t, out);
+            report::nodes(t, out);
         }
         Answer::Refused(number, place) => {
             report::refused(number, place);
@@ -84,13 +19,13 @@ fn show(name: &[u8], t: &[u8], choice: &[u8], out: &mut [u32]) {
         }
     }
     io::write_all(STDOUT_FILENO, b"  kept ");
-    print_number(kept(out));
+    report::number(report::kept(out));
     io::write_all(STDOUT_FILENO, b"\n");
 }
 
 // A run on a buffer of its own, of so many numbers.
 fn show_on(name: &[u8], t: &[u8], choice: &[u8], buffer: usize) {
-    let mut out = old_buffer();
+    let mut out = report::old_numbers();
     let room = least(buffer, 2400);
     show(name, t, choice, &mut out[..room]);
 }

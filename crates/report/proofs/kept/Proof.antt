@@ -1,8 +1,8 @@
 use Prim.Native.Nat.{_-_, _≤_}
 use lib.ListN.{length}
 use borrow.Author.Needs.{needs}
-use Rattle.safety_cases.proofs.kept.Statement.{statement}
-use Rattle.safety_cases.proofs.kept.Tie as tie
+use Rattle.report.proofs.kept.Statement.{statement}
+use Rattle.report.proofs.kept.Tie as tie
 
 abbrev Inv-loop : tie.InvT-loop
 Inv-loop out count₀ i₀ count i = (i ≤ length out) × (count ≤ i)

@@ -1,8 +1,8 @@
 use native.Mathlib.Omega.{arith}
 use lib.ListN.{length-take}
 use borrow.Author.Needs.{needs}
-use Rattle.safety_cases.proofs.print_sizes.Statement.{statement}
-use Rattle.safety_cases.proofs.print_sizes.Tie as tie
+use Rattle.report.proofs.functions.Statement.{statement}
+use Rattle.report.proofs.functions.Tie as tie
 
 check-requires : tie.Need-check-requires
 check-requires c κs = search needs
@@ -22,20 +22,20 @@ least-requires c κs = search needs
 mul-to : tie.Need-mul-to
 mul-to c = search needs
 
-slice-aggregate-print-rows : tie.Need-slice-aggregate-print-rows
-slice-aggregate-print-rows c = search needs
+slice-aggregate-rows : tie.Need-slice-aggregate-rows
+slice-aggregate-rows c = search needs
 
-slice-aggregate-print-rows-2 : tie.Need-slice-aggregate-print-rows-2
-slice-aggregate-print-rows-2 c = simp length-take (omega arith)
+slice-aggregate-rows-2 : tie.Need-slice-aggregate-rows-2
+slice-aggregate-rows-2 c = simp length-take (omega arith)
 
-print-rows-requires : tie.Need-print-rows-requires
-print-rows-requires c κs = search needs
+rows-requires : tie.Need-rows-requires
+rows-requires c κs = search needs
 
 returns-2 : tie.Need-returns-2
 returns-2 c = search needs
 
-pub print-sizes-spec : {M : Type 1} → statement M
-print-sizes-spec =
+pub functions-spec : {M : Type 1} → statement M
+functions-spec =
     tie.close
     (tie.spec
     check-requires
@@ -44,7 +44,7 @@ print-sizes-spec =
     returns
     least-requires
     mul-to
-    slice-aggregate-print-rows
-    slice-aggregate-print-rows-2
-    print-rows-requires
+    slice-aggregate-rows
+    slice-aggregate-rows-2
+    rows-requires
     returns-2)
