@@ -1,5 +1,6 @@
 use native.Mathlib.Omega.{arith}
-use Rattle.sizes.proofs.Calls.{admitted-done}
+use Rattle.sizes.specs.Known.{call}
+use Rattle.sizes.proofs.Calls.{admission}
 use borrow.Author.Needs.{needs}
 use Rattle.sizes_passes.proofs.show.Statement.{statement}
 use Rattle.sizes_passes.proofs.show.Tie as tie
@@ -27,10 +28,10 @@ slice-aggregate-find-2 c = search needs
 
 find-requires : tie.Need-find-requires
 find-requires c κs =
-    let t = c .before .before .before .before .before .before .before .before .before .before .before .before .before .args .t .now in
+    let a = c .before .before .before .before .before .before .before .before .before .before .before .before .before .args in
     let d = c .before .before .before .before .before .before .admit in
-    let known-is = admitted-done t (d .result .answer) (d .result .known) (c .before .before .before .enum-told .given .1) (d .ensures .1) in
-    (known-is, (omega arith, omega arith))
+    let q = admission (call (a .t .now) (a .choice .now) 2304) (d .result .answer) (d .result .known) (c .before .before .before .enum-told .given .1) (d .ensures .0) (d .ensures .1) in
+    ((q .ready, q .sets), (omega arith, omega arith))
 
 print-decimal-requires : tie.Need-print-decimal-requires
 print-decimal-requires c κs = search needs
