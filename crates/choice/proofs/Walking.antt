@@ -1,7 +1,7 @@
 -- One spawn more on a walk: what becomes of its verdict.
-use Prim.Native.Nat.{ℕ, suc, _+_, _<_, _≤_}
+use Prim.Native.Nat.{ℕ, suc, _+_, _-_, _<_, _≤_}
 use mathlib.Core.Path.{_≡_, refl, sym, ap, _∙_, subst}
-use mathlib.Core.Bool.{Bool, false}
+use mathlib.Core.Bool.{Bool, true, false}
 use mathlib.Core.List.{List}
 use mathlib.Core.Logic.{_⊎_, inl, inr, ⊎-elim}
 use native.Mathlib.Nat.{eq-or-lt-of-le}
@@ -22,9 +22,9 @@ use Rattle.sizes.specs.Answer.{Written}
 use Rattle.sizes.specs.Call.{choiceOf}
 use Rattle.safety.specs.Safety.{Safe}
 use Rattle.safety.specs.Test.{Judged}
-use Rattle.safety.proofs.Laws.{safe-smaller, unmerged-safe}
+use Rattle.safety.proofs.Laws.{safe-smaller, safe-alike, unmerged-safe}
 use Rattle.choice.specs.Preference.{InOrder}
-use Rattle.choice.specs.Walk.{Unmerged, unmergedAt, SafeSized, Tried, raised, kept, Walked}
+use Rattle.choice.specs.Walk.{Unmerged, unmergedAt, raisedTo, SafeSized, OthersZero, Tried, raised, kept, TriedAll, Walked}
 
 -- the last of the first i + 1, or one before it
 last-or-before : (j i : ℕ) → j < i + 1 → (j ≡ i) ⊎ (j < i)
@@ -102,6 +102,67 @@ module _ (g : Program) (k : ℕ) (order from : ℕ → ℕ) where
               go (yes p) m = omega (arith, ap up p, ap d p, ap (λ (z : ℕ). d (order z)) e)
               go (no p) (inl v) = omega (arith, others n p, b n h)
               go (no p) (inr (u, v, (z, y, o))) = omega (arith, others n p, q z (omega arith) (omega (arith, ap to o)), ap d o)
+
+-- all that wait get k at once, and the choice is safe: the walk is done
+pub walked-all : (g : Program) (k count : ℕ) (order from up : ℕ → ℕ) → InOrder g count order → 2 ≤ k → OthersZero g from → ((n : ℕ) → n < g .nodes → up n ≡ raisedTo k (from n)) → Safe g up → Walked g k count order from up
+walked-all g k count order from up o h zero e s = record {
+  safe = λ z l. s;
+  moved = λ n l. change n l (ℕ-discrete (from n) (k - 1));
+  blocked = λ j l a b. absurd (omega (arith, b, raised-is (order j) (o .spawns j l .exists) (omega arith)));
+}
+  where
+    raised-is : (n : ℕ) → n < g .nodes → from n ≡ k - 1 → up n ≡ k
+    raised-is n l a = e n l ∙ rw (eq-eqb (from n) (k - 1) a) refl
+
+    change : (n : ℕ) → n < g .nodes → Dec (from n ≡ k - 1) → (up n ≡ from n) ⊎ ((suc (from n) ≡ k) × (up n ≡ k) × ((j : ℕ) × (j < count) × (order j ≡ n)))
+    change n l (no a) = inl (e n l ∙ rw (ne-eqb (from n) (k - 1) a) refl)
+    change n l (yes a) = inr (omega arith, raised-is n l a, o .all n (record { exists = l; spawns = is-spawn (ℕ-discrete (g .sort n) spawn) }))
+      where
+        is-spawn : Dec (g .sort n ≡ spawn) → g .sort n ≡ spawn
+        is-spawn (yes b) = b
+        is-spawn (no b) = absurd (omega (arith, zero n l b))
+
+-- what a trial of all at once came to
+pub tried-all : (g : Program) (k nodes : ℕ) (old all new : List ℕ) → nodes ≡ g .nodes → {first : List ℕ} → Written nodes (λ n. raisedTo k (choiceOf old n)) first all → Written nodes (choiceOf all) old new → Safe g (choiceOf all) → TriedAll g k old true new
+tried-all g k nodes old all new e a b s = (
+  safe-alike g (choiceOf all) (choiceOf new) (λ n h. sym (b .written n (omega arith))) s,
+  record {
+    long = b .long;
+    written = λ n h. b .written n (omega arith) ∙ a .written n (omega arith);
+    tail = λ n h. b .tail n (omega arith);
+  },
+)
+
+module _ (t : List ℕ) (of : Counts) (r : Ready t of) (k : ℕ) (old new : List ℕ) (done : Bool) (tried : TriedAll (programOf t) k old done new) where
+  pub tried-none : done ≡ false → new ≡ old
+  tried-none e = subst (λ (b : Bool). TriedAll (programOf t) k old b new) e tried
+
+  tried-safe : done ≡ true → TriedAll (programOf t) k old true new
+  tried-safe e = subst (λ (b : Bool). TriedAll (programOf t) k old b new) e tried
+
+  pub walked-at-once : (count : ℕ) (order : ℕ → ℕ) → InOrder (programOf t) count order → 2 ≤ k → OthersZero (programOf t) (choiceOf old) → done ≡ true → Walked (programOf t) k count order (choiceOf old) (choiceOf new) × Written (of .nodes) (choiceOf new) old new
+  walked-at-once count order o h zero e =
+      let x = tried-safe e in (
+        walked-all (programOf t) k count order (choiceOf old) (choiceOf new) o h zero (x .1 .written) (x .0),
+        record {
+          long = x .1 .long;
+          written = λ n l. refl;
+          tail = λ n l. x .1 .tail n (omega (arith, nodes-are t of r));
+        },
+      )
+
+-- where nothing was written, a walk begins where it was
+pub walked-from : (g : Program) (k count nodes : ℕ) (order : ℕ → ℕ) {old new last : List ℕ} → new ≡ old → Walked g k count order (choiceOf new) (choiceOf last) → Written nodes (choiceOf last) new last → Walked g k count order (choiceOf old) (choiceOf last) × Written nodes (choiceOf last) old last
+walked-from g k count nodes order {last = last} e w v =
+    (subst (λ (l : List ℕ). Walked g k count order (choiceOf l) (choiceOf last)) e w, subst (λ (l : List ℕ). Written nodes (choiceOf last) l last) e v)
+
+-- a walk leaves the nodes that are no spawns
+pub others-stay : (g : Program) (k count : ℕ) (order from to : ℕ → ℕ) → InOrder g count order → Walked g k count order from to → OthersZero g from → OthersZero g to
+others-stay g k count order from to o w zero n h s = go (w .moved n h)
+  where
+    go : (to n ≡ from n) ⊎ ((suc (from n) ≡ k) × (to n ≡ k) × ((j : ℕ) × (j < count) × (order j ≡ n))) → to n ≡ 0
+    go (inl e) = e ∙ zero n h s
+    go (inr (a, b, (j, l, e))) = absurd (s (subst (λ (z : ℕ). g .sort z ≡ spawn) e (o .spawns j l .spawns)))
 
 -- so a trial takes the walk one spawn further
 module _ (g : Program) (formed : WellFormed g) (k : ℕ) (order from : ℕ → ℕ) (i : ℕ) (old : List ℕ) (x : order i < g .nodes) (fits : order i < length old) where

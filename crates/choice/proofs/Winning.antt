@@ -229,11 +229,14 @@ module _ (g : Program) (w : WellFormed g) (count : ℕ) (order : ℕ → ℕ) (o
 
 -- ---- from the bytes
 
+pub unmerged-is : (t : List ℕ) (of : Counts) → Ready t of → {old new : List ℕ} → Written (of .nodes) (unmergedAt (programOf t)) old new → Unmerged (programOf t) (choiceOf new)
+unmerged-is t of r {old} {new} w = unmerged-written (programOf t) old new (of .nodes) (nodes-are t of r) w
+
 pub unmerged-ready : (t : List ℕ) (of : Counts) → Ready t of → {old new : List ℕ} → Written (of .nodes) (unmergedAt (programOf t)) old new → SafeSized (programOf t) (choiceOf new)
-unmerged-ready t of r {old} {new} w = unmerged-sized (programOf t) (choiceOf new) (well-formed t (r .accepted-is)) (unmerged-written (programOf t) old new (of .nodes) (nodes-are t of r) w)
+unmerged-ready t of r {old} {new} w = unmerged-sized (programOf t) (choiceOf new) (well-formed t (r .accepted-is)) (unmerged-is t of r w)
 
 pub chosen : (t : List ℕ) (of : Counts) → Ready t of → (count : ℕ) (order : ℕ → ℕ) → InOrder (programOf t) count order → {old start middle final : List ℕ} → Written (of .nodes) (unmergedAt (programOf t)) old start → Written (of .nodes) (choiceOf middle) start middle → Written (of .nodes) (choiceOf final) middle final → Walked (programOf t) guarded count order (choiceOf start) (choiceOf middle) → Walked (programOf t) unguarded count order (choiceOf middle) (choiceOf final) → Chosen (programOf t) old final
 chosen t of r count order o {old} {start} {middle} {final} a b c one two = record {
-  returned = walks-return (programOf t) (well-formed t (r .accepted-is)) count order o (choiceOf start) (choiceOf middle) (choiceOf final) (unmerged-written (programOf t) old start (of .nodes) (nodes-are t of r) a) one two;
+  returned = walks-return (programOf t) (well-formed t (r .accepted-is)) count order o (choiceOf start) (choiceOf middle) (choiceOf final) (unmerged-is t of r a) one two;
   written = rw (nodes-are t of r) at (written-twice (of .nodes) (choiceOf middle) old middle final (written-twice (of .nodes) (unmergedAt (programOf t)) old start middle a b) c);
 }

@@ -1,7 +1,7 @@
 -- The two walks of the search for the best choice. Helps proofs only.
-use Prim.Native.Nat.{ℕ, suc, _<_, _≤_}
+use Prim.Native.Nat.{ℕ, suc, _-_, _<_, _≤_}
 use mathlib.Core.Path.{_≡_}
-use mathlib.Core.Bool.{cond}
+use mathlib.Core.Bool.{Bool, true, false, cond}
 use mathlib.Core.List.{List}
 use mathlib.Core.Logic.{_⊎_}
 use lib.Dec.{eqb}
@@ -32,6 +32,19 @@ SafeSized g c = (s : ℕ → ℕ) → LeastSizes g c s → Safe g c
 pub data Tried (g : Program) (n k : ℕ) (old : List ℕ) : List ℕ → Type 0 where
   raised : Safe g (choiceOf (set old n k)) → Tried g n k old (set old n k)
   kept : (s : ℕ → ℕ) → LeastSizes g (choiceOf (set old n k)) s → (Safe g (choiceOf (set old n k)) → ⊥) → Tried g n k old old
+
+-- the verdict k for the one below it, and every other as it is
+abbrev pub raisedTo : ℕ → ℕ → ℕ
+raisedTo k verdict = cond (eqb verdict (k - 1)) k verdict
+
+-- nodes that are no spawns have the verdict 0
+abbrev pub OthersZero : Program → (ℕ → ℕ) → Type 0
+OthersZero g c = (n : ℕ) → n < g .nodes → (g .sort n ≡ spawn → ⊥) → c n ≡ 0
+
+-- a trial of all at once
+abbrev pub TriedAll : Program → ℕ → List ℕ → Bool → List ℕ → Type 0
+TriedAll g k old true new = Safe g (choiceOf new) × Written (g .nodes) (λ n. raisedTo k (choiceOf old n)) old new
+TriedAll g k old false new = new ≡ old
 
 -- A walk that has gone over the first i spawns of the order: each that had one less has verdict k, or no safe choice that does for those
 -- before it what the walk did gives it k.

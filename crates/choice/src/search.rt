@@ -14,7 +14,7 @@ ghost use Rattle.sync.specs.Answer.{Sets};
 ghost use Rattle.sizes.specs.Answer.{Written};
 ghost use Rattle.sizes.specs.Call.{choiceOf};
 ghost use Rattle.choice.specs.Preference.{InOrder};
-ghost use Rattle.choice.specs.Walk.{unmergedAt, SafeSized, Tried, Walked, Chosen};
+ghost use Rattle.choice.specs.Walk.{unmergedAt, raisedTo, SafeSized, OthersZero, Tried, TriedAll, Walked, Chosen};
 
 // The verdict of node n where nothing is merged: 1 for a spawn, and 0 for any other node.
 fn unmerged(t: &[u8], of: Counts, n: usize) -> u8
@@ -51,7 +51,7 @@ fn attempt(t: &[u8], known: Known, n: usize, k: u8, verdicts: &mut [u8], passes:
 }
 
 // Gives each spawn in order that has the verdict below k the verdict k, where the choice stays safe. It counts trials and passes.
-fn walk(
+fn one_by_one(
     t: &[u8],
     known: Known,
     order: &[usize],
@@ -78,6 +78,122 @@ fn walk(
             *passes = wrapping_add_u32(*passes, spent);
         }
     }
+}
+
+// How many of the nodes have the verdict below k.
+fn waiting(nodes: usize, k: u8, verdicts: &[u8]) -> usize
+    requires { ⌜ (1 ≤ k) × (nodes ≤ length (now verdicts)) ⌝ }
+    ensures { λ r. ⌜ r ≤ nodes ⌝ }
+{
+    let mut count: usize = 0;
+    let mut n: usize = 0;
+    while n < nodes {
+        let verdict = verdicts[n];
+        n += 1;
+        if verdict == k - 1 {
+            count += 1;
+        }
+    }
+    count
+}
+
+// The verdict k for the one below it, and every other as it is.
+fn raised(k: u8, verdict: u8) -> u8
+    requires { ⌜ 1 ≤ k ⌝ }
+    ensures { λ r. ⌜ r ≡ raisedTo k verdict ⌝ }
+{
+    if verdict == k - 1 { k } else { verdict }
+}
+
+// Writes the verdicts of all nodes, so raised, to another buffer.
+fn raise_all(nodes: usize, k: u8, verdicts: &[u8], all: &mut [u8])
+    requires { ⌜ (1 ≤ k) × (nodes ≤ length (now verdicts)) × (nodes ≤ length (now all)) ⌝ }
+    ensures { λ _. ⌜ Written nodes (λ n. raisedTo k (choiceOf (now (verdicts .entry)) n)) (now (all .entry)) (now (all .exit)) ⌝ }
+{
+    let mut n: usize = 0;
+    while n < nodes {
+        all[n] = raised(k, verdicts[n]);
+        n += 1;
+    }
+}
+
+// Writes the first bytes of one buffer to another.
+fn copy(count: usize, from: &[u8], to: &mut [u8])
+    requires { ⌜ (count ≤ length (now from)) × (count ≤ length (now to)) ⌝ }
+    ensures { λ _. ⌜ Written count (choiceOf (now (from .entry))) (now (to .entry)) (now (to .exit)) ⌝ }
+{
+    let mut i: usize = 0;
+    while i < count {
+        to[i] = from[i];
+        i += 1;
+    }
+}
+
+// A trial of all at once: gives each spawn that has the verdict below k the verdict k, if the choice stays safe, and says so.
+fn all_at_once(t: &[u8], known: Known, k: u8, verdicts: &mut [u8], passes: &mut u32) -> bool
+    requires { ⌜ Ready (now t) (known .of) × Sets (programOf (now t)) (known .synchronising) (known .reached) ⌝ }
+    requires { ⌜ (1 ≤ k) × (known .of .nodes ≤ length (now verdicts)) ⌝ }
+    ensures { λ r. ⌜ TriedAll (programOf (now (t .entry))) k (now (verdicts .entry)) r (now (verdicts .exit)) ⌝ }
+{
+    let mut all = [0u8; 512];
+    raise_all(known.of.nodes, k, verdicts, &mut all);
+    if is_safe(t, &all, known, passes) {
+        copy(known.of.nodes, &all, verdicts);
+        return true;
+    }
+    false
+}
+
+// Tries all spawns that wait for the verdict k at once, where at least two do. Where all spawns but one wait, a further trial
+// could be one too many: there are at most two for each spawn.
+fn at_once(
+    t: &[u8],
+    known: Known,
+    count: usize,
+    k: u8,
+    verdicts: &mut [u8],
+    trials: &mut u32,
+    passes: &mut u32,
+) -> bool
+    requires { ⌜ Ready (now t) (known .of) × Sets (programOf (now t)) (known .synchronising) (known .reached) ⌝ }
+    requires { ⌜ (1 ≤ k) × (known .of .nodes ≤ length (now verdicts)) ⌝ }
+    ensures { λ r. ⌜ TriedAll (programOf (now (t .entry))) k (now (verdicts .entry)) r (now (verdicts .exit)) ⌝ }
+{
+    let wait = waiting(known.of.nodes, k, verdicts);
+    if wait < 2 {
+        return false;
+    }
+    if wait + 1 == count {
+        return false;
+    }
+    let mut spent: u32 = 0;
+    let done = all_at_once(t, known, k, verdicts, &mut spent);
+    *trials = wrapping_add_u32(*trials, 1);
+    *passes = wrapping_add_u32(*passes, spent);
+    done
+}
+
+// A walk over the spawns: all at once, if that is safe, and else one by one.
+fn walk(
+    t: &[u8],
+    known: Known,
+    order: &[usize],
+    count: usize,
+    k: u8,
+    verdicts: &mut [u8],
+    trials: &mut u32,
+    passes: &mut u32,
+)
+    requires { ⌜ Ready (now t) (known .of) × Sets (programOf (now t)) (known .synchronising) (known .reached) ⌝ }
+    requires { ⌜ (count ≤ length (now order)) × InOrder (programOf (now t)) count (choiceOf (now order)) ⌝ }
+    requires { ⌜ (2 ≤ k) × (known .of .nodes ≤ length (now verdicts)) × SafeSized (programOf (now t)) (choiceOf (now verdicts)) × OthersZero (programOf (now t)) (choiceOf (now verdicts)) ⌝ }
+    ensures { λ _. ⌜ Walked (programOf (now (t .entry))) k count (choiceOf (now (order .entry))) (choiceOf (now (verdicts .entry))) (choiceOf (now (verdicts .exit))) ⌝ }
+    ensures { λ _. ⌜ Written (known .of .nodes) (choiceOf (now (verdicts .exit))) (now (verdicts .entry)) (now (verdicts .exit)) ⌝ }
+{
+    if at_once(t, known, count, k, verdicts, trials, passes) {
+        return;
+    }
+    one_by_one(t, known, order, count, k, verdicts, trials, passes);
 }
 
 // The best choice of an accepted table, in as many bytes as there are nodes. It counts the trials and passes that finding it took.

@@ -1,6 +1,8 @@
 use native.Mathlib.Omega.{arith}
+use Rattle.table.specs.Program.{programOf}
 use Rattle.table.proofs.Ready.{few-nodes}
-use Rattle.choice.proofs.Winning.{unmerged-ready, chosen}
+use Rattle.choice.proofs.Walking.{others-stay}
+use Rattle.choice.proofs.Winning.{unmerged-is, unmerged-ready, chosen}
 use borrow.Author.Needs.{needs}
 use Rattle.choice.proofs.search.choose.Statement.{statement}
 use Rattle.choice.proofs.search.choose.Tie as tie
@@ -23,7 +25,7 @@ walk-requires c κs =
     let p = c .before .before .before .before .before .before .before .before .before .before .before .before .before .pre in
     let o = c .before .before .before .before .before .before .before .before .before .in-order .ensures in
     let u = c .before .before .before .before .before .before .unmerge .ensures in
-    (p .0, ((omega (arith, o .0 .0, o .0 .1, few-nodes (a .t .now) (a .known .of) (p .0 .0)), o .1 .0), (omega arith, omega (arith, u .long, p .1), unmerged-ready (a .t .now) (a .known .of) (p .0 .0) u)))
+    (p .0, ((omega (arith, o .0 .0, o .0 .1, few-nodes (a .t .now) (a .known .of) (p .0 .0)), o .1 .0), (omega arith, omega (arith, u .long, p .1), unmerged-ready (a .t .now) (a .known .of) (p .0 .0) u, unmerged-is (a .t .now) (a .known .of) (p .0 .0) u .others)))
 
 slice-aggregate-walk-2 : tie.Need-slice-aggregate-walk-2
 slice-aggregate-walk-2 c = search needs
@@ -35,7 +37,7 @@ walk-requires-2 c κs =
     let o = c .before .before .before .before .before .before .before .before .before .before .before .before .before .before .before .before .in-order .ensures in
     let u = c .before .before .before .before .before .before .before .before .before .before .before .before .before .unmerge .ensures in
     let w = c .before .before .before .before .before .before .walk .ensures in
-    (p .0, ((omega (arith, o .0 .0, o .0 .1, few-nodes (a .t .now) (a .known .of) (p .0 .0)), o .1 .0), (omega arith, omega (arith, u .long, w .1 .long, p .1), w .0 .safe)))
+    (p .0, ((omega (arith, o .0 .0, o .0 .1, few-nodes (a .t .now) (a .known .of) (p .0 .0)), o .1 .0), (omega arith, omega (arith, u .long, w .1 .long, p .1), w .0 .safe, others-stay (programOf (a .t .now)) 2 (c .before .before .before .before .before .before .before .before .before .before .before .before .before .before .before .before .in-order .result) _ _ _ (o .1 .0) (w .0) (unmerged-is (a .t .now) (a .known .of) (p .0 .0) u .others))))
 
 same-length : tie.Need-same-length
 same-length c = search needs
