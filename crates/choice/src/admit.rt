@@ -28,7 +28,7 @@ fn judge(of: Counts, t: &[u8], verdicts: usize, buffer: usize) -> Answer
 }
 
 // Judges a call with a verdict buffer of so many bytes and a sizes buffer of so many numbers.
-pub(crate) fn admit(t: &[u8], verdicts: usize, buffer: usize) -> Admitted
+pub fn admit(t: &[u8], verdicts: usize, buffer: usize) -> Admitted
     ensures { λ r. ⌜ resultOf (r .answer) ≡ bestResult (bestCall (now (t .entry)) verdicts buffer) ⌝ }
     ensures { λ r. ⌜ AdmittedFor (now (t .entry)) (r .answer) (r .known) ⌝ }
 {

@@ -1,5 +1,5 @@
 // The best choice. Document 01, "Preference and the best choice".
-mod admit;
+pub mod admit;
 mod depth;
 mod order;
 pub mod search;
