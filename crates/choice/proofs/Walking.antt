@@ -1,7 +1,7 @@
 -- One spawn more on a walk: what becomes of its verdict.
 use Prim.Native.Nat.{ℕ, suc, _+_, _-_, _<_, _≤_}
 use mathlib.Core.Path.{_≡_, refl, sym, ap, _∙_, subst}
-use mathlib.Core.Bool.{Bool, true, false}
+use mathlib.Core.Bool.{Bool}
 use mathlib.Core.List.{List}
 use mathlib.Core.Logic.{_⊎_, inl, inr, ⊎-elim}
 use native.Mathlib.Nat.{eq-or-lt-of-le}
@@ -15,23 +15,24 @@ use Rattle.table.specs.Answer.{Ready}
 use Rattle.table.specs.Program.{Program, programOf}
 use Rattle.table.specs.WellFormed.{WellFormed}
 use Rattle.table.specs.declared.Counts.{Counts}
-use Rattle.table.proofs.Booleans.{not-both}
 use Rattle.table.proofs.Ready.{nodes-are}
 use Rattle.sizes.specs.Rules.{LeastSizes}
+use Rattle.sizes.specs.System.{Derived}
 use Rattle.sizes.specs.Answer.{Written}
 use Rattle.sizes.specs.Call.{choiceOf}
+use Rattle.sizes.proofs.Laws.{sizes-alike, derived-larger}
 use Rattle.safety.specs.Safety.{Safe}
 use Rattle.safety.specs.Test.{Judged}
-use Rattle.safety.proofs.Laws.{safe-smaller, safe-alike, unmerged-safe}
+use Rattle.safety.proofs.Laws.{safe-smaller, safe-alike}
 use Rattle.choice.specs.Preference.{InOrder}
-use Rattle.choice.specs.Walk.{Unmerged, unmergedAt, raisedTo, SafeSized, OthersZero, Tried, raised, kept, TriedAll, Walked}
+use Rattle.choice.specs.Walk.{Unmerged, unmergedAt, raisedTo, OthersZero, Sized, Tried, raised, kept, TriedAll, all-raised, all-kept, Walked}
 
 -- the last of the first i + 1, or one before it
 last-or-before : (j i : ℕ) → j < i + 1 → (j ≡ i) ⊎ (j < i)
 last-or-before j i h = eq-or-lt-of-le (omega arith)
 
 module _ (g : Program) (k : ℕ) (order from : ℕ → ℕ) where
-  pub walked-none : SafeSized g from → Walked g k 0 order from from
+  pub walked-none : Safe g from → Walked g k 0 order from from
   walked-none s = record {
     safe = s;
     moved = λ n h. inl refl;
@@ -74,7 +75,7 @@ module _ (g : Program) (k : ℕ) (order from : ℕ → ℕ) where
       -- it gets k, and the choice is safe
       pub walked-raised : Safe g up → Walked g k (i + 1) order from up
       walked-raised s = record {
-        safe = λ z l. s;
+        safe = s;
         moved = λ n h. change n h (ℕ-discrete n (order i)) (w .moved n h);
         blocked = λ j h a l d t b q r. ⊎-elim (λ (e : j ≡ i). absurd (omega (arith, ap (λ (z : ℕ). up (order z)) e))) (λ (m : j < i). still j m a l d t b q r) (last-or-before j i h);
       }
@@ -106,7 +107,7 @@ module _ (g : Program) (k : ℕ) (order from : ℕ → ℕ) where
 -- all that wait get k at once, and the choice is safe: the walk is done
 pub walked-all : (g : Program) (k count : ℕ) (order from up : ℕ → ℕ) → InOrder g count order → 2 ≤ k → OthersZero g from → ((n : ℕ) → n < g .nodes → up n ≡ raisedTo k (from n)) → Safe g up → Walked g k count order from up
 walked-all g k count order from up o h zero e s = record {
-  safe = λ z l. s;
+  safe = s;
   moved = λ n l. change n l (ℕ-discrete (from n) (k - 1));
   blocked = λ j l a b. absurd (omega (arith, b, raised-is (order j) (o .spawns j l .exists) (omega arith)));
 }
@@ -122,34 +123,22 @@ walked-all g k count order from up o h zero e s = record {
         is-spawn (yes b) = b
         is-spawn (no b) = absurd (omega (arith, zero n l b))
 
--- what a trial of all at once came to
-pub tried-all : (g : Program) (k nodes : ℕ) (old all new : List ℕ) → nodes ≡ g .nodes → {first : List ℕ} → Written nodes (λ n. raisedTo k (choiceOf old n)) first all → Written nodes (choiceOf all) old new → Safe g (choiceOf all) → TriedAll g k old true new
-tried-all g k nodes old all new e a b s = (
-  safe-alike g (choiceOf all) (choiceOf new) (λ n h. sym (b .written n (omega arith))) s,
-  record {
-    long = b .long;
-    written = λ n h. b .written n (omega arith) ∙ a .written n (omega arith);
-    tail = λ n h. b .tail n (omega arith);
-  },
-)
+-- so a trial of all at once that says 1 is a walk, and one that does not leaves the bytes as they were
+module _ (t : List ℕ) (of : Counts) (r : Ready t of) (k : ℕ) (old new : List ℕ) where
+  pub tried-none : (done : ℕ) → TriedAll (programOf t) k old new done → (done ≡ 1 → ⊥) → new ≡ old
+  tried-none done (all-raised d s w) x = absurd (x d)
+  tried-none done (all-kept d e) x = e
 
-module _ (t : List ℕ) (of : Counts) (r : Ready t of) (k : ℕ) (old new : List ℕ) (done : Bool) (tried : TriedAll (programOf t) k old done new) where
-  pub tried-none : done ≡ false → new ≡ old
-  tried-none e = subst (λ (b : Bool). TriedAll (programOf t) k old b new) e tried
-
-  tried-safe : done ≡ true → TriedAll (programOf t) k old true new
-  tried-safe e = subst (λ (b : Bool). TriedAll (programOf t) k old b new) e tried
-
-  pub walked-at-once : (count : ℕ) (order : ℕ → ℕ) → InOrder (programOf t) count order → 2 ≤ k → OthersZero (programOf t) (choiceOf old) → done ≡ true → Walked (programOf t) k count order (choiceOf old) (choiceOf new) × Written (of .nodes) (choiceOf new) old new
-  walked-at-once count order o h zero e =
-      let x = tried-safe e in (
-        walked-all (programOf t) k count order (choiceOf old) (choiceOf new) o h zero (x .1 .written) (x .0),
-        record {
-          long = x .1 .long;
-          written = λ n l. refl;
-          tail = λ n l. x .1 .tail n (omega (arith, nodes-are t of r));
-        },
-      )
+  pub walked-at-once : (count : ℕ) (order : ℕ → ℕ) → InOrder (programOf t) count order → 2 ≤ k → OthersZero (programOf t) (choiceOf old) → (done : ℕ) → TriedAll (programOf t) k old new done → done ≡ 1 → Walked (programOf t) k count order (choiceOf old) (choiceOf new) × Written (of .nodes) (choiceOf new) old new
+  walked-at-once count order o h zero done (all-kept d e) x = absurd (d x)
+  walked-at-once count order o h zero done (all-raised d s w) x = (
+    walked-all (programOf t) k count order (choiceOf old) (choiceOf new) o h zero (w .written) s,
+    record {
+      long = w .long;
+      written = λ n l. refl;
+      tail = λ n l. w .tail n (omega (arith, nodes-are t of r));
+    },
+  )
 
 -- where nothing was written, a walk begins where it was
 pub walked-from : (g : Program) (k count nodes : ℕ) (order : ℕ → ℕ) {old new last : List ℕ} → new ≡ old → Walked g k count order (choiceOf new) (choiceOf last) → Written nodes (choiceOf last) new last → Walked g k count order (choiceOf old) (choiceOf last) × Written nodes (choiceOf last) old last
@@ -195,11 +184,61 @@ written-twice count numbers a b c v w = record {
   tail = λ i h. w .tail i h ∙ v .tail i h;
 }
 
--- a trial that failed leaves the bytes as they were
-pub tried-kept : (g : Program) (n k : ℕ) (old : List ℕ) (r : Bool) → Judged g (choiceOf (set old n k)) r → r ≡ false → Tried g n k old (set (set old n k) n (choiceOf old n))
-tried-kept g n k old r j e =
-    subst (λ (z : List ℕ). Tried g n k old z) (sym (set-set old n k (choiceOf old n) ∙ set-getD old n 0))
-    (kept (j .sizes) (j .sizes-are) (λ safe. not-both r (j .tells .only-if safe) e))
+-- ---- a trial, from what the test of a choice says
+
+module _ (g : Program) (set′ reached : ℕ → Bool) where
+  -- sizes serve every choice with the same verdicts
+  pub sized-alike : (c d s : ℕ → ℕ) → ((n : ℕ) → n < g .nodes → c n ≡ d n) → Sized g set′ reached c s → Sized g set′ reached d s
+  sized-alike c d s e z = record {
+    sizes-are = sizes-alike g c d s e (z .sizes-are);
+    derived = derived-larger g set′ reached c d s (λ n h. omega (arith, e n h)) (z .derived);
+  }
+
+  module _ (n k : ℕ) (old : List ℕ) where
+    -- the sizes there are serve for the larger choice,
+    pub derived-raised : (s : ℕ → ℕ) → n < length old → choiceOf old n ≤ k → Sized g set′ reached (choiceOf old) s → Derived g set′ reached (choiceOf (set old n k)) s
+    derived-raised s h l z = derived-larger g set′ reached (choiceOf old) (choiceOf (set old n k)) s (λ m b. go m (ℕ-discrete m n)) (z .derived)
+      where
+        go : (m : ℕ) → Dec (m ≡ n) → choiceOf old m ≤ choiceOf (set old n k) m
+        go m (yes e) = omega (arith, ap (choiceOf old) e, ap (choiceOf (set old n k)) e, getD-set-same old n k 0 h)
+        go m (no e) = omega (arith, getD-set-other old n m k 0 e)
+
+    -- and what the test of it says decides
+    module _ (f : ℕ → ℕ) (safe : ℕ) (j : Judged g set′ reached (choiceOf (set old n k)) f safe) where
+      pub tried-raised : safe ≡ 1 → Tried g n k old (set old n k) × Sized g set′ reached (choiceOf (set old n k)) f
+      tried-raised e = (raised (j .tells .0 e), record { sizes-are = j .sizes-are; derived = j .derived })
+
+      pub tried-kept : (safe ≡ 1 → ⊥) → (s : ℕ → ℕ) → Sized g set′ reached (choiceOf old) s → Tried g n k old (set (set old n k) n (choiceOf old n)) × Sized g set′ reached (choiceOf (set (set old n k) n (choiceOf old n))) s
+      tried-kept e s z =
+          subst (λ (l : List ℕ). Tried g n k old l × Sized g set′ reached (choiceOf l) s) (sym (set-set old n k (choiceOf old n) ∙ set-getD old n 0))
+          (kept f (j .sizes-are) (λ x. e (j .tells .1 x)), z)
+
+  -- the same for all at once: `all` has the verdicts raised, and `new` gets them if that is safe
+  module _ (k nodes : ℕ) (old all : List ℕ) (e : nodes ≡ g .nodes) (h : 1 ≤ k) {first : List ℕ} (a : Written nodes (λ n. raisedTo k (choiceOf old n)) first all) where
+    pub derived-all : (s : ℕ → ℕ) → Sized g set′ reached (choiceOf old) s → Derived g set′ reached (choiceOf all) s
+    derived-all s z = derived-larger g set′ reached (choiceOf old) (choiceOf all) s (λ n b. go n b (ℕ-discrete (choiceOf old n) (k - 1))) (z .derived)
+      where
+        go : (n : ℕ) → n < g .nodes → Dec (choiceOf old n ≡ k - 1) → choiceOf old n ≤ choiceOf all n
+        go n b (yes q) =
+            let r : raisedTo k (choiceOf old n) ≡ k = rw (eq-eqb (choiceOf old n) (k - 1) q) refl in
+            omega (arith, a .written n (omega arith), r)
+        go n b (no q) =
+            let r : raisedTo k (choiceOf old n) ≡ choiceOf old n = rw (ne-eqb (choiceOf old n) (k - 1) q) refl in
+            omega (arith, a .written n (omega arith), r)
+
+    module _ (f : ℕ → ℕ) (safe : ℕ) (j : Judged g set′ reached (choiceOf all) f safe) where
+      pub tried-all : {new : List ℕ} → Written nodes (choiceOf all) old new → safe ≡ 1 → TriedAll g k old new safe × Sized g set′ reached (choiceOf new) f
+      tried-all {new} b y = (
+        all-raised y (safe-alike g (choiceOf all) (choiceOf new) same (j .tells .0 y)) (record {
+          long = b .long;
+          written = λ n l. b .written n (omega arith) ∙ a .written n (omega arith);
+          tail = λ n l. b .tail n (omega arith);
+        }),
+        sized-alike (choiceOf all) (choiceOf new) f same (record { sizes-are = j .sizes-are; derived = j .derived }),
+      )
+        where
+          same : (n : ℕ) → n < g .nodes → choiceOf all n ≡ choiceOf new n
+          same n l = sym (b .written n (omega arith))
 
 -- ---- unmerged everywhere
 
@@ -215,9 +254,9 @@ unmerged-written g old new count e w = record {
   others = λ n h s. w .written n (omega arith) ∙ unmerged-other g n s;
 }
 
-pub unmerged-sized : (g : Program) (c : ℕ → ℕ) → WellFormed g → Unmerged g c → SafeSized g c
-unmerged-sized g c w u s l = unmerged-safe g c (λ n h. go n h (ℕ-discrete (g .sort n) spawn)) w s l
+pub nothing-merged : (g : Program) (c : ℕ → ℕ) → Unmerged g c → (n : ℕ) → n < g .nodes → c n ≤ 1
+nothing-merged g c u n h = go (ℕ-discrete (g .sort n) spawn)
   where
-    go : (n : ℕ) → n < g .nodes → Dec (g .sort n ≡ spawn) → c n ≤ 1
-    go n h (yes e) = omega (arith, u .spawns n (record { exists = h; spawns = e }))
-    go n h (no e) = omega (arith, u .others n h e)
+    go : Dec (g .sort n ≡ spawn) → c n ≤ 1
+    go (yes e) = omega (arith, u .spawns n (record { exists = h; spawns = e }))
+    go (no e) = omega (arith, u .others n h e)

@@ -19,12 +19,12 @@ use Rattle.sizes.specs.Rules.{LeastSizes}
 use Rattle.sizes.specs.Answer.{Written}
 use Rattle.sizes.specs.Call.{choiceOf}
 use Rattle.safety.specs.Safety.{Safe}
-use Rattle.safety.proofs.Laws.{safe-alike}
+use Rattle.safety.proofs.Laws.{safe-alike, unmerged-safe}
 use Rattle.choice.specs.Preference.{IsSpawn, comesFirst, ComesFirst, InOrder}
 use Rattle.choice.specs.Beats.{Alike, Wins, Beats, Best, Returned}
-use Rattle.choice.specs.Walk.{Unmerged, unmergedAt, SafeSized, Walked, Chosen}
+use Rattle.choice.specs.Walk.{Unmerged, unmergedAt, Walked, Chosen}
 use Rattle.choice.proofs.Firsts.{first-irreflexive, first-transitive, first-by}
-use Rattle.choice.proofs.Walking.{written-twice, unmerged-written, unmerged-sized}
+use Rattle.choice.proofs.Walking.{written-twice, unmerged-written, nothing-merged}
 
 -- ---- of two choices one wins, or they are alike
 
@@ -132,16 +132,9 @@ stages x y z h (inr (a, b)) (inl f) = record { first-up = omega arith; merged-at
 stages x y z h (inr (a, b)) (inr (p, q)) = record { first-up = omega arith; merged-at-most = omega arith; second-up = omega arith; at-most = omega arith; merged-before = λ l. omega arith; zero-stays = λ l. omega arith }
 
 module _ (g : Program) (w : WellFormed g) (count : ℕ) (order : ℕ → ℕ) (o : InOrder g count order) (start middle final : ℕ → ℕ) (u : Unmerged g start) (one : Walked g guarded count order start middle) (two : Walked g unguarded count order middle final) where
-  start-at : (n : ℕ) → n < g .nodes → start n ≤ 1
-  start-at n h = go (ℕ-discrete (g .sort n) spawn)
-    where
-      go : Dec (g .sort n ≡ spawn) → start n ≤ 1
-      go (yes e) = omega (arith, u .spawns n (record { exists = h; spawns = e }))
-      go (no e) = omega (arith, u .others n h e)
-
   at : (n : ℕ) → n < g .nodes → Stages (start n) (middle n) (final n)
   at n h =
-      stages (start n) (middle n) (final n) (start-at n h)
+      stages (start n) (middle n) (final n) (nothing-merged g start u n h)
       (⊎-elim inl (λ z. inr (z .0, z .1)) (one .moved n h))
       (⊎-elim inl (λ z. inr (z .0, z .1)) (two .moved n h))
 
@@ -183,60 +176,60 @@ module _ (g : Program) (w : WellFormed g) (count : ℕ) (order : ℕ → ℕ) (o
         let merged = x .merged-before (a (v .at) (v .spawn-is) .0 (omega (arith, v .does))) in
         no-win g w count order o unguarded middle final two d s (middle-below a) v (omega (arith, x .merged-at-most, merged))
 
-  module _ (s : ℕ → ℕ) (l : LeastSizes g final s) where
-    best : Best g final
-    best = record { safe = two .safe s l; unbeaten = λ d f. beaten-by-none d f }
+  best : Best g final
+  best = record { safe = two .safe; unbeaten = λ d f. beaten-by-none d f }
 
-    only : (c : ℕ → ℕ) → ChoiceFor g c → Best g c → (n : ℕ) → n < g .nodes → final n ≡ c n
-    only c f b n h = go (ℕ-discrete (g .sort n) spawn)
-      where
-        same : g .sort n ≡ spawn → Alike guarded c final n → Alike unguarded c final n → final n ≡ c n
-        same e p q = level (decLe 2 (c n)) (decLe 3 (c n))
-          where
-            level : Dec (2 ≤ c n) → Dec (3 ≤ c n) → final n ≡ c n
-            level (yes x) (yes y) = omega (arith, q .0 y, f .spawns n h e .1, final-for .spawns n h e .1)
-            level (yes x) (no y) = below (decLe 3 (final n))
-              where
-                below : Dec (3 ≤ final n) → final n ≡ c n
-                below (yes z) = absurd (y (q .1 z))
-                below (no z) = omega (arith, p .0 x)
-            level (no x) y = below (decLe 2 (final n))
-              where
-                below : Dec (2 ≤ final n) → final n ≡ c n
-                below (yes z) = absurd (x (p .1 z))
-                below (no z) = omega (arith, f .spawns n h e .0, final-for .spawns n h e .0)
+  only : (c : ℕ → ℕ) → ChoiceFor g c → Best g c → (n : ℕ) → n < g .nodes → final n ≡ c n
+  only c f b n h = go (ℕ-discrete (g .sort n) spawn)
+    where
+      same : g .sort n ≡ spawn → Alike guarded c final n → Alike unguarded c final n → final n ≡ c n
+      same e p q = level (decLe 2 (c n)) (decLe 3 (c n))
+        where
+          level : Dec (2 ≤ c n) → Dec (3 ≤ c n) → final n ≡ c n
+          level (yes x) (yes y) = omega (arith, q .0 y, f .spawns n h e .1, final-for .spawns n h e .1)
+          level (yes x) (no y) = below (decLe 3 (final n))
+            where
+              below : Dec (3 ≤ final n) → final n ≡ c n
+              below (yes z) = absurd (y (q .1 z))
+              below (no z) = omega (arith, p .0 x)
+          level (no x) y = below (decLe 2 (final n))
+            where
+              below : Dec (2 ≤ final n) → final n ≡ c n
+              below (yes z) = absurd (x (p .1 z))
+              below (no z) = omega (arith, f .spawns n h e .0, final-for .spawns n h e .0)
 
-        third : g .sort n ≡ spawn → AllAlike g guarded c final → AllAlike g unguarded c final ⊎ (Wins g unguarded c final ⊎ Wins g unguarded final c) → final n ≡ c n
-        third e a (inl b′) = let i : IsSpawn g n = record { exists = h; spawns = e } in same e (a n i) (b′ n i)
-        third e a (inr (inl v)) = absurd (beaten-by-none c f (b .safe) (inr (a, v)))
-        third e a (inr (inr v)) = absurd (b .unbeaten final final-for (best .safe) (inr (λ m i. (a m i .1, a m i .0), v)))
+      third : g .sort n ≡ spawn → AllAlike g guarded c final → AllAlike g unguarded c final ⊎ (Wins g unguarded c final ⊎ Wins g unguarded final c) → final n ≡ c n
+      third e a (inl b′) = let i : IsSpawn g n = record { exists = h; spawns = e } in same e (a n i) (b′ n i)
+      third e a (inr (inl v)) = absurd (beaten-by-none c f (b .safe) (inr (a, v)))
+      third e a (inr (inr v)) = absurd (b .unbeaten final final-for (best .safe) (inr (λ m i. (a m i .1, a m i .0), v)))
 
-        second : g .sort n ≡ spawn → AllAlike g guarded c final ⊎ (Wins g guarded c final ⊎ Wins g guarded final c) → final n ≡ c n
-        second e (inl a) = third e a (alike-or-wins g w count order o unguarded c final)
-        second e (inr (inl v)) = absurd (beaten-by-none c f (b .safe) (inl v))
-        second e (inr (inr v)) = absurd (b .unbeaten final final-for (best .safe) (inl v))
+      second : g .sort n ≡ spawn → AllAlike g guarded c final ⊎ (Wins g guarded c final ⊎ Wins g guarded final c) → final n ≡ c n
+      second e (inl a) = third e a (alike-or-wins g w count order o unguarded c final)
+      second e (inr (inl v)) = absurd (beaten-by-none c f (b .safe) (inl v))
+      second e (inr (inr v)) = absurd (b .unbeaten final final-for (best .safe) (inl v))
 
-        go : Dec (g .sort n ≡ spawn) → final n ≡ c n
-        go (yes e) = second e (alike-or-wins g w count order o guarded c final)
-        go (no e) = final-for .others n h e ∙ sym (f .others n h e)
+      go : Dec (g .sort n ≡ spawn) → final n ≡ c n
+      go (yes e) = second e (alike-or-wins g w count order o guarded c final)
+      go (no e) = final-for .others n h e ∙ sym (f .others n h e)
 
-    -- so it is the one to return
-    pub walks-return : Returned g final
-    walks-return = record {
-      choice-for = final-for;
-      exactly-when = λ c f. (λ e. best-alike g final c e best, only c f);
-    }
+  -- so it is the one to return
+  pub walks-return : Returned g final
+  walks-return = record {
+    choice-for = final-for;
+    exactly-when = λ c f. (λ e. best-alike g final c e best, only c f);
+  }
 
 -- ---- from the bytes
 
 pub unmerged-is : (t : List ℕ) (of : Counts) → Ready t of → {old new : List ℕ} → Written (of .nodes) (unmergedAt (programOf t)) old new → Unmerged (programOf t) (choiceOf new)
 unmerged-is t of r {old} {new} w = unmerged-written (programOf t) old new (of .nodes) (nodes-are t of r) w
 
-pub unmerged-ready : (t : List ℕ) (of : Counts) → Ready t of → {old new : List ℕ} → Written (of .nodes) (unmergedAt (programOf t)) old new → SafeSized (programOf t) (choiceOf new)
-unmerged-ready t of r {old} {new} w = unmerged-sized (programOf t) (choiceOf new) (well-formed t (r .accepted-is)) (unmerged-is t of r w)
+pub unmerged-ready : (t : List ℕ) (of : Counts) → Ready t of → {old new : List ℕ} → Written (of .nodes) (unmergedAt (programOf t)) old new → (s : ℕ → ℕ) → LeastSizes (programOf t) (choiceOf new) s → Safe (programOf t) (choiceOf new)
+unmerged-ready t of r {old} {new} w s l = unmerged-safe (programOf t) (choiceOf new) (nothing-merged (programOf t) (choiceOf new) (unmerged-is t of r w)) (well-formed t (r .accepted-is)) s l
 
-pub chosen : (t : List ℕ) (of : Counts) → Ready t of → (count : ℕ) (order : ℕ → ℕ) → InOrder (programOf t) count order → {old start middle final : List ℕ} → Written (of .nodes) (unmergedAt (programOf t)) old start → Written (of .nodes) (choiceOf middle) start middle → Written (of .nodes) (choiceOf final) middle final → Walked (programOf t) guarded count order (choiceOf start) (choiceOf middle) → Walked (programOf t) unguarded count order (choiceOf middle) (choiceOf final) → Chosen (programOf t) old final
-chosen t of r count order o {old} {start} {middle} {final} a b c one two = record {
+pub chosen : (t : List ℕ) (of : Counts) → Ready t of → (count : ℕ) (order : ℕ → ℕ) → InOrder (programOf t) count order → {old start middle final : List ℕ} → Written (of .nodes) (unmergedAt (programOf t)) old start → Written (of .nodes) (choiceOf middle) start middle → Written (of .nodes) (choiceOf final) middle final → Walked (programOf t) guarded count order (choiceOf start) (choiceOf middle) → Walked (programOf t) unguarded count order (choiceOf middle) (choiceOf final) → (s : ℕ → ℕ) → LeastSizes (programOf t) (choiceOf final) s → Chosen (programOf t) old final s
+chosen t of r count order o {old} {start} {middle} {final} a b c one two s l = record {
   returned = walks-return (programOf t) (well-formed t (r .accepted-is)) count order o (choiceOf start) (choiceOf middle) (choiceOf final) (unmerged-is t of r a) one two;
   written = rw (nodes-are t of r) at (written-twice (of .nodes) (choiceOf middle) old middle final (written-twice (of .nodes) (unmergedAt (programOf t)) old start middle a b) c);
+  sizes-are = l;
 }

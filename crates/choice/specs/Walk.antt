@@ -1,7 +1,7 @@
 -- The two walks of the search for the best choice. Helps proofs only.
 use Prim.Native.Nat.{ℕ, suc, _-_, _<_, _≤_}
 use mathlib.Core.Path.{_≡_}
-use mathlib.Core.Bool.{Bool, true, false, cond}
+use mathlib.Core.Bool.{Bool, cond}
 use mathlib.Core.List.{List}
 use mathlib.Core.Logic.{_⊎_}
 use lib.Dec.{eqb}
@@ -10,6 +10,7 @@ use Rattle.table.specs.Record.{spawn}
 use Rattle.table.specs.Program.{Program}
 use Rattle.sizes.specs.Choice.{unmerged}
 use Rattle.sizes.specs.Rules.{LeastSizes}
+use Rattle.sizes.specs.System.{Derived}
 use Rattle.sizes.specs.Answer.{Written}
 use Rattle.sizes.specs.Call.{choiceOf}
 use Rattle.safety.specs.Safety.{Safe}
@@ -24,9 +25,10 @@ pub record Unmerged (g : Program) (c : ℕ → ℕ) : Type 0 where
 abbrev pub unmergedAt : Program → ℕ → ℕ
 unmergedAt g n = cond (eqb (g .sort n) spawn) unmerged 0
 
--- c is safe, once it has sizes
-abbrev pub SafeSized : Program → (ℕ → ℕ) → Type 0
-SafeSized g c = (s : ℕ → ℕ) → LeastSizes g c s → Safe g c
+-- s are the sizes of choice c, and those of a larger choice may be found from them
+pub record Sized (g : Program) (set reached : ℕ → Bool) (c s : ℕ → ℕ) : Type 0 where
+  pub sizes-are : LeastSizes g c s
+  pub derived : Derived g set reached c s
 
 -- one trial: spawn n has got verdict k and the choice is safe, or it would not be and nothing has changed
 pub data Tried (g : Program) (n k : ℕ) (old : List ℕ) : List ℕ → Type 0 where
@@ -41,19 +43,20 @@ raisedTo k verdict = cond (eqb verdict (k - 1)) k verdict
 abbrev pub OthersZero : Program → (ℕ → ℕ) → Type 0
 OthersZero g c = (n : ℕ) → n < g .nodes → (g .sort n ≡ spawn → ⊥) → c n ≡ 0
 
--- a trial of all at once
-abbrev pub TriedAll : Program → ℕ → List ℕ → Bool → List ℕ → Type 0
-TriedAll g k old true new = Safe g (choiceOf new) × Written (g .nodes) (λ n. raisedTo k (choiceOf old n)) old new
-TriedAll g k old false new = new ≡ old
+-- a trial of all at once, which says 1 if they have got verdict k
+pub data TriedAll (g : Program) (k : ℕ) (old new : List ℕ) : ℕ → Type 0 where
+  all-raised : {done : ℕ} → done ≡ 1 → Safe g (choiceOf new) → Written (g .nodes) (λ n. raisedTo k (choiceOf old n)) old new → TriedAll g k old new done
+  all-kept : {done : ℕ} → (done ≡ 1 → ⊥) → new ≡ old → TriedAll g k old new done
 
 -- A walk that has gone over the first i spawns of the order: each that had one less has verdict k, or no safe choice that does for those
 -- before it what the walk did gives it k.
 pub record Walked (g : Program) (k i : ℕ) (order from to : ℕ → ℕ) : Type 0 where
-  pub safe : SafeSized g to
+  pub safe : Safe g to
   pub moved : (n : ℕ) → n < g .nodes → (to n ≡ from n) ⊎ ((suc (from n) ≡ k) × (to n ≡ k) × ((j : ℕ) × (j < i) × (order j ≡ n)))
   pub blocked : (j : ℕ) → j < i → suc (from (order j)) ≡ k → to (order j) < k → (d : ℕ → ℕ) → Safe g d → ((n : ℕ) → n < g .nodes → from n ≤ d n) → ((l : ℕ) → l < j → k ≤ to (order l) → k ≤ d (order l)) → k ≤ d (order j) → ⊥
 
--- the choice to return stands in the first bytes, once it has sizes
-pub record Chosen (g : Program) (old new : List ℕ) : Type 0 where
-  pub returned : (s : ℕ → ℕ) → LeastSizes g (choiceOf new) s → Returned g (choiceOf new)
+-- the choice to return stands in the first bytes, and s are its sizes
+pub record Chosen (g : Program) (old new : List ℕ) (s : ℕ → ℕ) : Type 0 where
+  pub returned : Returned g (choiceOf new)
   pub written : Written (g .nodes) (choiceOf new) old new
+  pub sizes-are : LeastSizes g (choiceOf new) s

@@ -8,7 +8,7 @@ use admit::admit;
 use order::in_order;
 use search::choose;
 use sizes::Answer;
-use sizes::find::put;
+use sizes::find::write_sizes;
 use table::Checked;
 use table::check;
 ghost use mathlib.Core.Path.{_≡_};
@@ -68,10 +68,9 @@ pub fn best(t: &[u8], verdicts: &mut [u8], sizes: &mut [u32]) -> Answer
         Answer::Done => {
             let mut trials: u32 = 0;
             let mut passes: u32 = 0;
-            choose(t, known, verdicts, &mut trials, &mut passes);
-            let mut after = [0u32; 512];
-            let mut before = [0u32; 512];
-            put(t, verdicts, known, &mut after, &mut before, sizes);
+            let found = choose(t, known, verdicts, &mut trials, &mut passes);
+            let count = 4 * (known.of.functions + known.of.nodes);
+            write_sizes(found, count, sizes);
             Answer::Done
         }
     }

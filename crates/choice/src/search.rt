@@ -1,20 +1,26 @@
 // The search for the best choice: two walks over the spawns in the preference order.
 use crate::order::in_order;
-use safety::is_safe;
+use safety::judge;
+use size::Size;
 use sizes::Known;
+use sizes::find::find;
 use std::num::wrapping_add_u32;
 use table::Counts;
 use table::program;
 ghost use mathlib.Core.Path.{_≡_};
+ghost use mathlib.Core.List.{map};
 ghost use Prim.Native.Nat.{_<_, _≤_};
 ghost use lib.ListN.{length};
 ghost use Rattle.table.specs.Answer.{Ready};
 ghost use Rattle.table.specs.Program.{programOf};
+ghost use Rattle.sync.specs.Words.{member};
 ghost use Rattle.sync.specs.Answer.{Sets};
+ghost use Rattle.size.specs.Size.{valueOf};
 ghost use Rattle.sizes.specs.Answer.{Written};
 ghost use Rattle.sizes.specs.Call.{choiceOf};
+ghost use Rattle.safety.specs.Safety.{Safe};
 ghost use Rattle.choice.specs.Preference.{InOrder};
-ghost use Rattle.choice.specs.Walk.{unmergedAt, raisedTo, SafeSized, OthersZero, Tried, TriedAll, Walked, Chosen};
+ghost use Rattle.choice.specs.Walk.{unmergedAt, raisedTo, OthersZero, Sized, Tried, TriedAll, Walked, Chosen};
 
 // The verdict of node n where nothing is merged: 1 for a spawn, and 0 for any other node.
 fn unmerged(t: &[u8], of: Counts, n: usize) -> u8
@@ -36,18 +42,32 @@ fn unmerge(t: &[u8], of: Counts, verdicts: &mut [u8])
     }
 }
 
-// A trial: gives spawn n the verdict k, unless the choice would not be safe. It counts the passes that this took.
-fn attempt(t: &[u8], known: Known, n: usize, k: u8, verdicts: &mut [u8], passes: &mut u32)
+// A trial: gives spawn n the verdict k, unless the choice would not be safe. Its sizes are found from those it has, and given back;
+// the passes that this took are counted.
+fn attempt(
+    t: &[u8],
+    known: Known,
+    n: usize,
+    k: u8,
+    verdicts: &mut [u8],
+    from: [Size; 2304],
+    passes: &mut u32,
+) -> [Size; 2304]
     requires { ⌜ Ready (now t) (known .of) × Sets (programOf (now t)) (known .synchronising) (known .reached) ⌝ }
-    requires { ⌜ n < length (now verdicts) ⌝ }
+    requires { ⌜ (n < length (now verdicts)) × (choiceOf (now verdicts) n ≤ k) ⌝ }
+    requires { ⌜ Sized (programOf (now t)) (member (known .synchronising)) (member (known .reached)) (choiceOf (now verdicts)) (choiceOf (map valueOf from)) ⌝ }
     ensures { λ _. ⌜ Tried (programOf (now (t .entry))) n k (now (verdicts .entry)) (now (verdicts .exit)) ⌝ }
+    ensures { λ r. ⌜ Sized (programOf (now (t .entry))) (member (known .synchronising)) (member (known .reached)) (choiceOf (now (verdicts .exit))) (choiceOf (map valueOf r)) ⌝ }
 {
     let old = verdicts[n];
     verdicts[n] = k;
-    if is_safe(t, verdicts, known, passes) {
-        return;
+    let mut safe: u32 = 0;
+    let found = judge(t, verdicts, known, from, &mut safe, passes);
+    if safe == 1 {
+        return found;
     }
     verdicts[n] = old;
+    from
 }
 
 // Gives each spawn in order that has the verdict below k the verdict k, where the choice stays safe. It counts trials and passes.
@@ -58,26 +78,32 @@ fn one_by_one(
     count: usize,
     k: u8,
     verdicts: &mut [u8],
+    from: [Size; 2304],
     trials: &mut u32,
     passes: &mut u32,
-)
+) -> [Size; 2304]
     requires { ⌜ Ready (now t) (known .of) × Sets (programOf (now t)) (known .synchronising) (known .reached) ⌝ }
     requires { ⌜ (count ≤ length (now order)) × InOrder (programOf (now t)) count (choiceOf (now order)) ⌝ }
-    requires { ⌜ (1 ≤ k) × (known .of .nodes ≤ length (now verdicts)) × SafeSized (programOf (now t)) (choiceOf (now verdicts)) ⌝ }
+    requires { ⌜ (1 ≤ k) × (known .of .nodes ≤ length (now verdicts)) × Safe (programOf (now t)) (choiceOf (now verdicts)) ⌝ }
+    requires { ⌜ Sized (programOf (now t)) (member (known .synchronising)) (member (known .reached)) (choiceOf (now verdicts)) (choiceOf (map valueOf from)) ⌝ }
     ensures { λ _. ⌜ Walked (programOf (now (t .entry))) k count (choiceOf (now (order .entry))) (choiceOf (now (verdicts .entry))) (choiceOf (now (verdicts .exit))) ⌝ }
     ensures { λ _. ⌜ Written (known .of .nodes) (choiceOf (now (verdicts .exit))) (now (verdicts .entry)) (now (verdicts .exit)) ⌝ }
+    ensures { λ r. ⌜ Sized (programOf (now (t .entry))) (member (known .synchronising)) (member (known .reached)) (choiceOf (now (verdicts .exit))) (choiceOf (map valueOf r)) ⌝ }
 {
+    let mut sizes = from;
     let mut i: usize = 0;
     while i < count {
         let n = order[i];
         i += 1;
         if verdicts[n] == k - 1 {
             let mut spent: u32 = 0;
-            attempt(t, known, n, k, verdicts, &mut spent);
+            let next = attempt(t, known, n, k, verdicts, sizes, &mut spent);
+            sizes = next;
             *trials = wrapping_add_u32(*trials, 1);
             *passes = wrapping_add_u32(*passes, spent);
         }
     }
+    sizes
 }
 
 // How many of the nodes have the verdict below k.
@@ -129,19 +155,31 @@ fn copy(count: usize, from: &[u8], to: &mut [u8])
     }
 }
 
-// A trial of all at once: gives each spawn that has the verdict below k the verdict k, if the choice stays safe, and says so.
-fn all_at_once(t: &[u8], known: Known, k: u8, verdicts: &mut [u8], passes: &mut u32) -> bool
+// A trial of all at once: gives each spawn that has the verdict below k the verdict k, if the choice stays safe, and says so: 1 for
+// yes, and 0 for no.
+fn all_at_once(
+    t: &[u8],
+    known: Known,
+    k: u8,
+    verdicts: &mut [u8],
+    from: [Size; 2304],
+    done: &mut u32,
+    passes: &mut u32,
+) -> [Size; 2304]
     requires { ⌜ Ready (now t) (known .of) × Sets (programOf (now t)) (known .synchronising) (known .reached) ⌝ }
     requires { ⌜ (1 ≤ k) × (known .of .nodes ≤ length (now verdicts)) ⌝ }
-    ensures { λ r. ⌜ TriedAll (programOf (now (t .entry))) k (now (verdicts .entry)) r (now (verdicts .exit)) ⌝ }
+    requires { ⌜ Sized (programOf (now t)) (member (known .synchronising)) (member (known .reached)) (choiceOf (now verdicts)) (choiceOf (map valueOf from)) ⌝ }
+    ensures { λ _. ⌜ TriedAll (programOf (now (t .entry))) k (now (verdicts .entry)) (now (verdicts .exit)) (now (done .exit)) ⌝ }
+    ensures { λ r. ⌜ Sized (programOf (now (t .entry))) (member (known .synchronising)) (member (known .reached)) (choiceOf (now (verdicts .exit))) (choiceOf (map valueOf r)) ⌝ }
 {
     let mut all = [0u8; 512];
     raise_all(known.of.nodes, k, verdicts, &mut all);
-    if is_safe(t, &all, known, passes) {
+    let found = judge(t, &all, known, from, done, passes);
+    if *done == 1 {
         copy(known.of.nodes, &all, verdicts);
-        return true;
+        return found;
     }
-    false
+    from
 }
 
 // Tries all spawns that wait for the verdict k at once, where at least two do. Where all spawns but one wait, a further trial
@@ -152,25 +190,30 @@ fn at_once(
     count: usize,
     k: u8,
     verdicts: &mut [u8],
+    from: [Size; 2304],
+    done: &mut u32,
     trials: &mut u32,
     passes: &mut u32,
-) -> bool
+) -> [Size; 2304]
     requires { ⌜ Ready (now t) (known .of) × Sets (programOf (now t)) (known .synchronising) (known .reached) ⌝ }
     requires { ⌜ (1 ≤ k) × (known .of .nodes ≤ length (now verdicts)) ⌝ }
-    ensures { λ r. ⌜ TriedAll (programOf (now (t .entry))) k (now (verdicts .entry)) r (now (verdicts .exit)) ⌝ }
+    requires { ⌜ Sized (programOf (now t)) (member (known .synchronising)) (member (known .reached)) (choiceOf (now verdicts)) (choiceOf (map valueOf from)) ⌝ }
+    ensures { λ _. ⌜ TriedAll (programOf (now (t .entry))) k (now (verdicts .entry)) (now (verdicts .exit)) (now (done .exit)) ⌝ }
+    ensures { λ r. ⌜ Sized (programOf (now (t .entry))) (member (known .synchronising)) (member (known .reached)) (choiceOf (now (verdicts .exit))) (choiceOf (map valueOf r)) ⌝ }
 {
+    *done = 0;
     let wait = waiting(known.of.nodes, k, verdicts);
     if wait < 2 {
-        return false;
+        return from;
     }
     if wait + 1 == count {
-        return false;
+        return from;
     }
     let mut spent: u32 = 0;
-    let done = all_at_once(t, known, k, verdicts, &mut spent);
+    let found = all_at_once(t, known, k, verdicts, from, done, &mut spent);
     *trials = wrapping_add_u32(*trials, 1);
     *passes = wrapping_add_u32(*passes, spent);
-    done
+    found
 }
 
 // A walk over the spawns: all at once, if that is safe, and else one by one.
@@ -181,30 +224,63 @@ fn walk(
     count: usize,
     k: u8,
     verdicts: &mut [u8],
+    from: [Size; 2304],
     trials: &mut u32,
     passes: &mut u32,
-)
+) -> [Size; 2304]
     requires { ⌜ Ready (now t) (known .of) × Sets (programOf (now t)) (known .synchronising) (known .reached) ⌝ }
     requires { ⌜ (count ≤ length (now order)) × InOrder (programOf (now t)) count (choiceOf (now order)) ⌝ }
-    requires { ⌜ (2 ≤ k) × (known .of .nodes ≤ length (now verdicts)) × SafeSized (programOf (now t)) (choiceOf (now verdicts)) × OthersZero (programOf (now t)) (choiceOf (now verdicts)) ⌝ }
+    requires { ⌜ (2 ≤ k) × (known .of .nodes ≤ length (now verdicts)) × Safe (programOf (now t)) (choiceOf (now verdicts)) × OthersZero (programOf (now t)) (choiceOf (now verdicts)) ⌝ }
+    requires { ⌜ Sized (programOf (now t)) (member (known .synchronising)) (member (known .reached)) (choiceOf (now verdicts)) (choiceOf (map valueOf from)) ⌝ }
     ensures { λ _. ⌜ Walked (programOf (now (t .entry))) k count (choiceOf (now (order .entry))) (choiceOf (now (verdicts .entry))) (choiceOf (now (verdicts .exit))) ⌝ }
     ensures { λ _. ⌜ Written (known .of .nodes) (choiceOf (now (verdicts .exit))) (now (verdicts .entry)) (now (verdicts .exit)) ⌝ }
+    ensures { λ r. ⌜ Sized (programOf (now (t .entry))) (member (known .synchronising)) (member (known .reached)) (choiceOf (now (verdicts .exit))) (choiceOf (map valueOf r)) ⌝ }
 {
-    if at_once(t, known, count, k, verdicts, trials, passes) {
-        return;
+    let mut done: u32 = 0;
+    let found = at_once(
+        t,
+        known,
+        count,
+        k,
+        verdicts,
+        from,
+        &mut done,
+        trials,
+        passes,
+    );
+    if done == 1 {
+        return found;
     }
-    one_by_one(t, known, order, count, k, verdicts, trials, passes);
+    one_by_one(t, known, order, count, k, verdicts, found, trials, passes)
 }
 
-// The best choice of an accepted table, in as many bytes as there are nodes. It counts the trials and passes that finding it took.
-pub fn choose(t: &[u8], known: Known, verdicts: &mut [u8], trials: &mut u32, passes: &mut u32)
+// The sizes of the choice in the first bytes, from zero on.
+fn sizes_of(t: &[u8], known: Known, verdicts: &[u8], passes: &mut u32) -> [Size; 2304]
+    requires { ⌜ Ready (now t) (known .of) × Sets (programOf (now t)) (known .synchronising) (known .reached) ⌝ }
+    ensures { λ r. ⌜ Sized (programOf (now (t .entry))) (member (known .synchronising)) (member (known .reached)) (choiceOf (now (verdicts .entry))) (choiceOf (map valueOf r)) ⌝ }
+{
+    let mut after = [0u32; 512];
+    let mut before = [0u32; 512];
+    find(t, verdicts, known, &mut after, &mut before, passes)
+}
+
+// The best choice of an accepted table, in as many bytes as there are nodes, and its sizes. It counts the trials, and the passes that
+// it took in all.
+pub fn choose(
+    t: &[u8],
+    known: Known,
+    verdicts: &mut [u8],
+    trials: &mut u32,
+    passes: &mut u32,
+) -> [Size; 2304]
     requires { ⌜ Ready (now t) (known .of) × Sets (programOf (now t)) (known .synchronising) (known .reached) ⌝ }
     requires { ⌜ known .of .nodes ≤ length (now verdicts) ⌝ }
-    ensures { λ _. ⌜ Chosen (programOf (now (t .entry))) (now (verdicts .entry)) (now (verdicts .exit)) ⌝ }
+    ensures { λ r. ⌜ Chosen (programOf (now (t .entry))) (now (verdicts .entry)) (now (verdicts .exit)) (choiceOf (map valueOf r)) ⌝ }
 {
     let mut order = [0usize; 512];
     let count = in_order(t, known.of, &mut order);
     unmerge(t, known.of, verdicts);
-    walk(t, known, &order, count, 2, verdicts, trials, passes);
-    walk(t, known, &order, count, 3, verdicts, trials, passes);
+    let none = sizes_of(t, known, verdicts, passes);
+    let merged = walk(t, known, &order, count, 2, verdicts, none, trials, passes);
+    walk(t, known, &order, count, 3, verdicts, merged, trials, passes)
 }

@@ -1,10 +1,11 @@
 -- From the two tests to safety, and back.
 use Prim.Native.Nat.{ℕ, _+_, _*_, _<_, _≤_}
-use mathlib.Core.Path.{_≡_, sym, ap, _∙_, subst, fun-ext}
-use mathlib.Core.Bool.{Bool, true}
+use mathlib.Core.Path.{_≡_, refl, sym, ap, _∙_, subst, fun-ext}
+use mathlib.Core.Bool.{Bool, true, false}
 use native.Mathlib.Omega.{arith}
 use Rattle.table.specs.Program.{Program}
 use Rattle.table.specs.WellFormed.{WellFormed}
+use Rattle.table.proofs.Booleans.{not-both}
 use Rattle.sync.specs.Paths.{Path, Open}
 use Rattle.sync.specs.Synchronising.{Synchronising}
 use Rattle.sync.proofs.Laws.{synchronising-unique}
@@ -12,6 +13,7 @@ use Rattle.size.specs.Size.{unbounded}
 use Rattle.sizes.specs.Rules.{entries}
 use Rattle.sizes.specs.Sums.{afterSum, beforeSum}
 use Rattle.sizes.specs.Answer.{SizesOf}
+use Rattle.sizes.specs.System.{Derived}
 use Rattle.sizes.proofs.Laws.{sizes-unique}
 use Rattle.safety.specs.Safety.{cut, Safe}
 use Rattle.safety.specs.Test.{PostsBelow, EdgesBounded, Tells, Judged}
@@ -55,12 +57,15 @@ module _ (g : Program) (w : WellFormed g) (set : ℕ → Bool) (set-is : Synchro
             (omega (arith, back-le g w s (safe .sizes) le back (t .to-exists)))
 
   -- so the tests tell whether the choice is safe
-  pub judged : (nodes : ℕ) {r : Bool} → nodes ≡ g .nodes → Tells r (PostsBelow g s nodes × EdgesBounded g after before) → Judged g c r
-  judged nodes e t = record {
-    tells = record {
-      yes-if = λ q. let h = t .yes-if q in safe-from (subst (PostsBelow g s) e (h .0)) (h .1);
-      only-if = λ safe. t .only-if (subst (PostsBelow g s) (sym e) (safe-posts safe), safe-edges safe);
-    };
-    sizes = s;
-    sizes-are = (set, set-is, x .least);
+  pub tells-safe : (nodes : ℕ) {r : Bool} → nodes ≡ g .nodes → Tells r (PostsBelow g s nodes × EdgesBounded g after before) → Tells r (Safe g c)
+  tells-safe nodes e t = record {
+    yes-if = λ q. let h = t .yes-if q in safe-from (subst (PostsBelow g s) e (h .0)) (h .1);
+    only-if = λ safe. t .only-if (subst (PostsBelow g s) (sym e) (safe-posts safe), safe-edges safe);
   }
+
+  module _ {reached : ℕ → Bool} (d : Derived g set reached c s) {r : Bool} (t : Tells r (Safe g c)) where
+    pub judged-safe : r ≡ true → Judged g set reached c s 1
+    judged-safe q = record { tells = (λ e. t .yes-if q, λ safe. refl); sizes-are = (set, set-is, x .least); derived = d }
+
+    pub judged-unsafe : r ≡ false → Judged g set reached c s 0
+    judged-unsafe q = record { tells = (λ e. absurd (omega arith), λ safe. absurd (not-both r (t .only-if safe) q)); sizes-are = (set, set-is, x .least); derived = d }

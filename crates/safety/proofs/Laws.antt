@@ -18,7 +18,7 @@ use Rattle.sync.proofs.Paths.{path-exists}
 use Rattle.size.specs.Size.{unbounded}
 use Rattle.sizes.specs.Rules.{through, ofNode, sum, sumAfter, sumBefore, entries, Meets, Least, LeastSizes}
 use Rattle.sizes.specs.Sums.{afterSum, beforeSum}
-use Rattle.sizes.proofs.Laws.{AtMost, meets-smaller, sizes-grow}
+use Rattle.sizes.proofs.Laws.{AtMost, least-alike, sizes-grow}
 use Rattle.safety.specs.Safety.{GivesBack, cut, Safe}
 
 module _ (g : Program) (w : WellFormed g) (s u : ℕ → ℕ) (le : (x : ℕ) → x < entries g → s x ≤ u x) where
@@ -84,10 +84,7 @@ safe-alike g c d e safe = record {
   set = safe .set;
   set-is = safe .set-is;
   sizes = safe .sizes;
-  sizes-are = record {
-    meets = meets-smaller g (safe .set) d c (safe .sizes) (λ n h. omega (arith, e n h)) (safe .sizes-are .meets);
-    least = λ other m. safe .sizes-are .least other (meets-smaller g (safe .set) c d other (λ n h. omega (arith, e n h)) m);
-  };
+  sizes-are = least-alike g (safe .set) c d (safe .sizes) e (safe .sizes-are);
   posts-zero = safe .posts-zero;
   cuts-bounded = safe .cuts-bounded;
 }

@@ -6,6 +6,7 @@ use Rattle.table.specs.Record.{spawn}
 use Rattle.table.specs.Program.{Program}
 use Rattle.size.specs.Size.{unbounded}
 use Rattle.sizes.specs.Rules.{LeastSizes}
+use Rattle.sizes.specs.System.{Derived}
 use Rattle.safety.specs.Safety.{Safe}
 
 -- Post of the target of every spawn below n is 0
@@ -21,8 +22,8 @@ pub record Tells (r : Bool) (P : Type 0) : Type 0 where
   pub yes-if : r ≡ true → P
   pub only-if : P → r ≡ true
 
--- what the test of a choice says; and the choice has sizes
-pub record Judged (g : Program) (choice : ℕ → ℕ) (r : Bool) : Type 0 where
-  pub tells : Tells r (Safe g choice)
-  pub sizes : ℕ → ℕ
+-- what the test of a choice says; and its sizes, from which those of a larger choice may be found
+pub record Judged (g : Program) (set reached : ℕ → Bool) (choice sizes : ℕ → ℕ) (safe : ℕ) : Type 0 where
+  pub tells : (safe ≡ 1 → Safe g choice) × (Safe g choice → safe ≡ 1)
   pub sizes-are : LeastSizes g choice sizes
+  pub derived : Derived g set reached choice sizes

@@ -2,7 +2,7 @@
 use size::Size;
 use sizes::Known;
 use sizes::admit::admit;
-use sizes::find::find;
+use sizes::find::find_from;
 use sizes::find::put;
 use table::Counts;
 use table::program;
@@ -11,9 +11,11 @@ ghost use mathlib.Core.List.{map};
 ghost use lib.ListN.{length};
 ghost use Rattle.table.specs.Answer.{Ready};
 ghost use Rattle.table.specs.Program.{programOf};
+ghost use Rattle.sync.specs.Words.{member};
 ghost use Rattle.sync.specs.Answer.{Sets};
 ghost use Rattle.size.specs.Size.{valueOf};
 ghost use Rattle.sizes.specs.Call.{choiceOf};
+ghost use Rattle.sizes.specs.System.{Derived};
 ghost use Rattle.sizes.specs.Known.{call};
 ghost use Rattle.safety.specs.Call.{Answers, LeavesSizes};
 ghost use Rattle.safety.specs.Test.{PostsBelow, EdgesBounded, Tells, Judged};
@@ -74,15 +76,29 @@ fn both_hold(t: &[u8], of: Counts, sizes: [Size; 2304], after: &[u32], before: &
     false
 }
 
-// Whether a choice is safe, for the search above: no size is written, and it counts the passes that finding them took.
-pub fn is_safe(t: &[u8], choice: &[u8], known: Known, passes: &mut u32) -> bool
+// Finds the sizes of a choice from those of a smaller one, and says whether it is safe: 1 if it is, and 0 if not. For the search
+// above: no size is written, and it tells the passes that finding them took.
+pub fn judge(
+    t: &[u8],
+    choice: &[u8],
+    known: Known,
+    from: [Size; 2304],
+    safe: &mut u32,
+    passes: &mut u32,
+) -> [Size; 2304]
     requires { ⌜ Ready (now t) (known .of) × Sets (programOf (now t)) (known .synchronising) (known .reached) ⌝ }
-    ensures { λ r. ⌜ Judged (programOf (now (t .entry))) (choiceOf (now (choice .entry))) r ⌝ }
+    requires { ⌜ Derived (programOf (now t)) (member (known .synchronising)) (member (known .reached)) (choiceOf (now choice)) (choiceOf (map valueOf from)) ⌝ }
+    ensures { λ r. ⌜ Judged (programOf (now (t .entry))) (member (known .synchronising)) (member (known .reached)) (choiceOf (now (choice .entry))) (choiceOf (map valueOf r)) (now (safe .exit)) ⌝ }
 {
     let mut after = [0u32; 512];
     let mut before = [0u32; 512];
-    let sizes = find(t, choice, known, &mut after, &mut before, passes);
-    both_hold(t, known.of, sizes, &after, &before)
+    let sizes = find_from(t, choice, known, from, &mut after, &mut before, passes);
+    if both_hold(t, known.of, sizes, &after, &before) {
+        *safe = 1;
+    } else {
+        *safe = 0;
+    }
+    sizes
 }
 
 // The call for one choice: says whether it is safe, and writes its sizes.

@@ -1,7 +1,7 @@
 -- After a pass that raises nothing, the values are a solution; so they are the least sizes and the largest sums.
 use Prim.Native.Nat.{ℕ, zero, suc, _+_, _-_, _*_, _/_, _%_, _<_, _≤_}
 use mathlib.Core.Path.{_≡_, refl, sym, ap, ap₂, _∙_, subst}
-use mathlib.Core.List.{List, []}
+use mathlib.Core.List.{List, [], _∷_}
 use native.Mathlib.Omega.{arith}
 use lib.ListN.{length, replicate, length-replicate}
 use Rattle.table.specs.Record.{edgeFrom, edgeTo}
@@ -13,14 +13,15 @@ use Rattle.sync.specs.Words.{member}
 use Rattle.sync.specs.Answer.{Sets}
 use Rattle.sizes.specs.Answer.{SizesOf, Written}
 use Rattle.sizes.specs.Sums.{LargestAfter, LargestBefore}
-use Rattle.sizes.specs.System.{Entry, size, along, turn, steps, takes, Form, stepForm, totalEdgeForm, targetForm, Solved, formOf, gives, start, step-on, end, total-node, total-edge, target-of}
-use Rattle.sizes.specs.Causes.{Given, RuleOf, at}
+use Rattle.sizes.specs.System.{Entry, size, along, turn, steps, takes, Form, stepForm, totalEdgeForm, targetForm, Solved, formOf, gives, start, step-on, end, total-node, total-edge, target-of, none, Derived}
+use Rattle.sizes.specs.Causes.{Given, RuleOf, DerOf, at}
 use Rattle.sizes.specs.Passes.{Values, sums, valueAt, room, roomOf, State, Passed}
 use Rattle.sizes.specs.Known.{given, edgeAt, AllHeld}
 use Rattle.sizes.specs.declared.Known.{Known}
 use Rattle.sizes.specs.declared.sums.Sum.{Sum}
 use Rattle.sizes.specs.declared.sums.Sum.the-variants.{After, Before, Through}
-use Rattle.sizes.proofs.Rises.{zeros-ok}
+use Rattle.sizes.proofs.Maps.{at-zeros}
+use Rattle.sizes.proofs.Rises.{uncaused-ok}
 use Rattle.sizes.proofs.Along.{turn-low, pick-none}
 use Rattle.sizes.proofs.Solved.{solved-least, solved-after, solved-before}
 
@@ -89,55 +90,54 @@ module _ (t choice : List ℕ) (known : Known) (ready : Ready t (known .of)) whe
 
 -- ---- the start
 
-at-all : (n x : ℕ) → at (replicate n 0) x ≡ 0
-at-all zero x = refl
-at-all (suc n) zero = refl
-at-all (suc n) (suc x) = at-all n x
-
 at-same : (n v x : ℕ) → x < n → at (replicate n v) x ≡ v
 at-same zero v x h = absurd (omega arith)
 at-same (suc n) v zero h = refl
 at-same (suc n) v (suc x) h = at-same n v x (omega arith)
 
-room-zeros : (n : ℕ) → room (replicate n 0) ≡ 65536 * n
-room-zeros zero = refl
-room-zeros (suc n) = omega (arith, room-zeros n)
+room-le : (l : List ℕ) → room l ≤ 65536 * length l
+room-le [] = omega arith
+room-le (x ∷ l) = omega (arith, room-le l)
 
--- zeros without causes
-pub record Zeros (v : Values) : Type 0 where
-  pub sizes-zero : v .sizes ≡ replicate 2304 0
+-- sums of zero beside any sizes
+pub record Starts (v : Values) : Type 0 where
+  pub sizes-long : length (v .sizes) ≡ 2304
   pub after-zero : v .after ≡ replicate 512 0
   pub before-zero : v .before ≡ replicate 512 0
   pub through-zero : v .through ≡ replicate 512 0
 
-pub zeros-state : (S : Given) (v : Values) (k : List ℕ) → Zeros v → k ≡ replicate 3840 65535 → State S v k
-zeros-state S v k z e = record {
-  ok = zeros-ok S (valueAt v) (at k) all (λ x h. omega (arith, ap (λ (l : List ℕ). at l x) e, at-same 3840 65535 x h));
-  sizes-long = ap length (z .sizes-zero) ∙ length-replicate {A = ℕ} 2304 0;
-  sums-long = long;
-  causes-long = ap length e ∙ length-replicate {A = ℕ} 3840 65535;
-}
-  where
-    zero-in : (n : ℕ) (l : List ℕ) → l ≡ replicate n 0 → (x : ℕ) → at l x ≡ 0
-    zero-in n l q x = ap (λ (m : List ℕ). at m x) q ∙ at-all n x
+module _ (v : Values) (z : Starts v) where
+  sums-are : (s : Sum) → sums s v ≡ replicate 512 0
+  sums-are After = z .after-zero
+  sums-are Before = z .before-zero
+  sums-are Through = z .through-zero
 
-    all : (x : Entry) → valueAt v x ≡ 0
-    all (size x) = zero-in 2304 (v .sizes) (z .sizes-zero) x
-    all (along After n) = zero-in 512 (v .after) (z .after-zero) n
-    all (along Before n) = zero-in 512 (v .before) (z .before-zero) n
-    all (along Through n) = zero-in 512 (v .through) (z .through-zero) n
+  sums-512 : (s : Sum) → length (sums s v) ≡ 512
+  sums-512 s = ap length (sums-are s) ∙ length-replicate {A = ℕ} 512 0
 
-    long : (s : Sum) → length (sums s v) ≡ 512
-    long After = ap length (z .after-zero) ∙ length-replicate {A = ℕ} 512 0
-    long Before = ap length (z .before-zero) ∙ length-replicate {A = ℕ} 512 0
-    long Through = ap length (z .through-zero) ∙ length-replicate {A = ℕ} 512 0
+  -- the sizes are derived, so the invariant holds without causes
+  pub starts-state : (S : Given) (k : List ℕ) → Derived (S .program) (S .synchronising) (S .reached) (S .choice) (at (v .sizes)) → k ≡ replicate 3840 65535 → State S v k
+  starts-state S k d e = record {
+    ok = uncaused-ok S (valueAt v) (at k) all (λ x h. omega (arith, ap (λ (l : List ℕ). at l x) e, at-same 3840 65535 x h));
+    sizes-long = z .sizes-long;
+    sums-long = sums-512;
+    causes-long = ap length e ∙ length-replicate {A = ℕ} 3840 65535;
+  }
+    where
+      all : (x : Entry) → DerOf S x (valueAt v x)
+      all (size x) = d .each x
+      all (along s n) = rw (ap (λ (l : List ℕ). at l n) (sums-are s) ∙ at-zeros 512 n) none
 
-pub zeros-room : (v : Values) → Zeros v → roomOf v ≡ 251658240
-zeros-room v z =
-    omega (
-      arith,
-      ap room (z .sizes-zero) ∙ room-zeros 2304,
-      ap room (z .after-zero) ∙ room-zeros 512,
-      ap room (z .before-zero) ∙ room-zeros 512,
-      ap room (z .through-zero) ∙ room-zeros 512,
-    )
+  pub starts-room : roomOf v ≤ 251658240
+  starts-room =
+      omega (
+        arith,
+        room-le (v .sizes),
+        z .sizes-long,
+        room-le (v .after),
+        sums-512 After,
+        room-le (v .before),
+        sums-512 Before,
+        room-le (v .through),
+        sums-512 Through,
+      )

@@ -1,9 +1,10 @@
--- What the crates above may use of the rules: at most one table is least, and a larger choice has the larger sizes.
+-- What the crates above may use of the rules: at most one table is least, a larger choice has the larger sizes, and its rules derive what a smaller one's do.
 use Prim.Native.Nat.{ℕ, _<_, _≤_}
-use mathlib.Core.Path.{_≡_, subst, fun-ext}
+use mathlib.Core.Path.{_≡_, refl, ap, _∙_, subst, fun-ext}
 use mathlib.Core.Bool.{Bool}
 use mathlib.Core.List.{List}
 use native.Mathlib.Omega.{arith}
+use lib.ListN.{replicate}
 use Rattle.table.specs.Program.{Program, programOf}
 use Rattle.table.specs.SameButEdges.{SameButEdges}
 use Rattle.table.proofs.Laws.{same-program}
@@ -11,6 +12,10 @@ use Rattle.sync.specs.Synchronising.{Synchronising}
 use Rattle.sync.proofs.Laws.{synchronising-unique}
 use Rattle.size.specs.Size.{unbounded}
 use Rattle.sizes.specs.Rules.{entries, Meets, Least, LeastSizes}
+use Rattle.sizes.specs.System.{Entry, Form, Rule, start, step-on, end, total-node, total-edge, target-of, formOf, gives, Der, none, rule, Derived}
+use Rattle.sizes.specs.Causes.{at}
+use Rattle.sizes.proofs.Maps.{at-zeros}
+use Rattle.sizes.proofs.Taking.{takes-larger}
 
 -- One choice is at or below another, node by node.
 abbrev pub AtMost : Program → (ℕ → ℕ) → (ℕ → ℕ) → Type 0
@@ -49,6 +54,12 @@ module _ (g : Program) where
     least-grows : (c d s u : ℕ → ℕ) → AtMost g c d → Least g set c s → Least g set d u → (x : ℕ) → x < entries g → s x ≤ u x
     least-grows c d s u b p q x h = p .least u (meets-smaller c d u b (q .meets)) x h
 
+    pub least-alike : (c d s : ℕ → ℕ) → ((n : ℕ) → n < g .nodes → c n ≡ d n) → Least g set c s → Least g set d s
+    least-alike c d s e l = record {
+      meets = meets-smaller d c s (λ n h. omega (arith, e n h)) (l .meets);
+      least = λ other m. l .least other (meets-smaller c d other (λ n h. omega (arith, e n h)) m);
+    }
+
   same-set : (set other : ℕ → Bool) (c s : ℕ → ℕ) → Synchronising g set → Synchronising g other → Least g other c s → Least g set c s
   same-set set other c s p q l = subst (λ (v : ℕ → Bool). Least g v c s) (fun-ext (synchronising-unique g other q set p)) l
 
@@ -62,6 +73,43 @@ module _ (g : Program) where
       omega
       (arith, sizes-grow c c s u (λ n l. omega arith) p q x h, sizes-grow c c u s (λ n l. omega arith) q p x h)
 
+  -- and only the verdicts of the nodes there are count
+  pub sizes-alike : (c d s : ℕ → ℕ) → ((n : ℕ) → n < g .nodes → c n ≡ d n) → LeastSizes g c s → LeastSizes g d s
+  sizes-alike c d s e l = (l .0, l .1, least-alike (l .0) c d s e (l .2))
+
 -- the least sizes depend on the program only: edges in another order, or repeated, give the same
 pub sizes-same : (t u : List ℕ) → SameButEdges t u → (c s : ℕ → ℕ) → LeastSizes (programOf t) c s → LeastSizes (programOf u) c s
 sizes-same t u e c s = subst (λ (g : Program). LeastSizes g c s) (same-program t u e)
+
+-- ---- sizes that the rules derive
+
+module _ (g : Program) (set reached : ℕ → Bool) where
+  module _ (c d : ℕ → ℕ) (b : AtMost g c d) where
+    abbrev rule-larger : Rule g set reached c → Rule g set reached d
+    rule-larger (start s n h i) = start s n h i
+    rule-larger (step-on s p n e i) = step-on s p n e i
+    rule-larger (end s f h i) = end s f h i
+    rule-larger (total-node n h) = total-node n h
+    rule-larger (total-edge p n e) = total-edge p n e
+    rule-larger (target-of n k h l i) = target-of n k h l (takes-larger g c d n k (b n h) i)
+
+    same-form : (r : Rule g set reached c) → formOf r ≡ formOf (rule-larger r)
+    same-form (start s n h i) = refl
+    same-form (step-on s p n e i) = refl
+    same-form (end s f h i) = refl
+    same-form (total-node n h) = refl
+    same-form (total-edge p n e) = refl
+    same-form (target-of n k h l i) = refl
+
+    der-larger : {x : Entry} {t : ℕ} → Der g set reached c x t → Der g set reached d x t
+    der-larger none = none
+    der-larger (rule {t = t} r v e each l) =
+        rule (rule-larger r) v (e ∙ ap (λ (f : Form). f .head) (same-form r)) (λ y. der-larger (each y)) (subst (λ (f : Form). t ≤ gives v f) (same-form r) l)
+
+  -- what a smaller choice's rules derive, a larger one's do
+  pub derived-larger : (c d s : ℕ → ℕ) → AtMost g c d → Derived g set reached c s → Derived g set reached d s
+  derived-larger c d s b h = record { each = λ x. der-larger c d b (h .each x) }
+
+  -- zeros are derived for every choice
+  pub derived-zeros : (c : ℕ → ℕ) (l : List ℕ) (n : ℕ) → l ≡ replicate n 0 → Derived g set reached c (at l)
+  derived-zeros c l n e = record { each = λ x. rw (ap (λ (m : List ℕ). at m x) e ∙ at-zeros n x) none }

@@ -2,7 +2,7 @@
 use Prim.Native.Nat.{ℕ, zero, suc}
 use mathlib.Core.Path.{_≡_, refl, sym, ap}
 use mathlib.Core.List.{List, [], _∷_, map}
-use lib.ListN.{getD, set, List·getD-map}
+use lib.ListN.{getD, set, replicate, List·getD-map}
 use Rattle.size.specs.Size.{valueOf}
 use Rattle.sizes.specs.Causes.{at}
 use Rattle.size.specs.declared.Size.{Size}
@@ -16,3 +16,9 @@ map-set (x ∷ xs) (suc i) y = ap (λ (r : List ℕ). valueOf x ∷ r) (map-set 
 -- an element of the values is the value of the element; past the end both are 0
 pub map-at : (l : List Size) (i : ℕ) → valueOf (getD l i (Bytes 0)) ≡ at (map valueOf l) i
 map-at l i = sym (List·getD-map valueOf l i (Bytes 0))
+
+-- zeros are 0 at every place
+pub at-zeros : (n x : ℕ) → at (replicate n 0) x ≡ 0
+at-zeros zero x = refl
+at-zeros (suc n) zero = refl
+at-zeros (suc n) (suc x) = at-zeros n x

@@ -226,8 +226,8 @@ module _ (S : Given) where
           let f : l y ≡ k y = q .1 y e in
           rw (p .other (entryAt y) (entry-other y x e), f) (lead-more (w (entryAt (k y))) (up (entryAt (k y))) (o .leads y i (omega (arith, f))))
 
-  pub zeros-ok : (v : Entry → ℕ) (k : ℕ → ℕ) → ((x : Entry) → v x ≡ 0) → ((x : ℕ) → x < entryCount → entryCount ≤ k x) → Ok S v k
-  zeros-ok v k z c = record { sound = λ x. rw (z x) none; leads = λ x h i. absurd (omega (arith, c x h)) }
+  pub uncaused-ok : (v : Entry → ℕ) (k : ℕ → ℕ) → ((x : Entry) → DerOf S x (v x)) → ((x : ℕ) → x < entryCount → entryCount ≤ k x) → Ok S v k
+  uncaused-ok v k d c = record { sound = d; leads = λ x h i. absurd (omega (arith, c x h)) }
 
   module _ {v : Entry → ℕ} {k : ℕ → ℕ} (x : ℕ) (o : Ok S v k) (r : RuleOf S) (here-is : entryAt x ≡ formOf r .head) where
     lead-by : (y : ℕ) → In (entryAt y) (formOf r .body) → Lead S (entryAt x) (gives v (formOf r)) (entryAt y) (v (entryAt y))

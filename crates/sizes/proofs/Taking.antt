@@ -64,3 +64,12 @@ module _ (g : Program) (choice : ℕ → ℕ) (n k : ℕ) where
       let m = or-true-right (eqb (g .sort n) call) (eqb (g .sort n) spawn && rest) b h in
       of-spawn (eqb-true _ _ (and-true-left (eqb (g .sort n) spawn) rest m)) (and-true-right (eqb (g .sort n) spawn) rest m))
       (either-way (eqb (g .sort n) call))
+
+-- what a smaller choice takes, a larger one does
+pub takes-larger : (g : Program) (c d : ℕ → ℕ) (n k : ℕ) → c n ≤ d n → takes g c n k ≡ true → takes g d n k ≡ true
+takes-larger g c d n k h b = go (takes-which g c n k b)
+  where
+    go : Takes g c n k → takes g d n k ≡ true
+    go (of-call s e) = takes-call g d n k s
+    go (of-unguarded s m e) = takes-unguarded g d n k s (omega arith)
+    go (of-merged s m l e) = takes-merged g d n k s (omega arith) l

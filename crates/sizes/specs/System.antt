@@ -147,3 +147,7 @@ module _ (g : Program) (set reached : ℕ → Bool) (choice : ℕ → ℕ) where
   pub record Solved (v : Entry → ℕ) : Type 0 where
     pub derived : (x : Entry) → Der x (v x)
     pub closed : (r : Rule g set reached choice) → gives v (formOf r) ≤ v (formOf r .head)
+
+  -- sizes that are derived, whatever the sums
+  pub record Derived (sizes : ℕ → ℕ) : Type 0 where
+    pub each : (x : ℕ) → Der (size x) (sizes x)

@@ -18,11 +18,12 @@ ghost use Rattle.size.specs.Size.{valueOf};
 ghost use Rattle.sizes.specs.Rules.{entries};
 ghost use Rattle.sizes.specs.Answer.{SizesOf, Written};
 ghost use Rattle.sizes.specs.Call.{Leaves};
+ghost use Rattle.sizes.specs.System.{Derived};
 ghost use Rattle.sizes.specs.Causes.{at};
 ghost use Rattle.sizes.specs.declared.Answer.the-variants.{Done};
 
 // "every entry starts from zero"
-fn zero_sizes() -> [Size; 2304]
+pub fn zero_sizes() -> [Size; 2304]
     ensures { λ r. ⌜ map valueOf r ≡ replicate 2304 0 ⌝ }
 {
     [Size::ZERO; 2304]
@@ -48,7 +49,7 @@ fn write_sums(sums: [Size; 512], out: &mut [u32])
 }
 
 // Writes the first sizes as numbers.
-fn write_sizes(sizes: [Size; 2304], count: usize, out: &mut [u32])
+pub fn write_sizes(sizes: [Size; 2304], count: usize, out: &mut [u32])
     requires { ⌜ (count ≤ 2304) × (count ≤ length (now out)) ⌝ }
     ensures { λ _. ⌜ Written count (at (map valueOf sizes)) (now (out .entry)) (now (out .exit)) ⌝ }
 {
@@ -60,11 +61,12 @@ fn write_sizes(sizes: [Size; 2304], count: usize, out: &mut [u32])
     }
 }
 
-// Raises the entries from zero until a pass raises nothing, from no causes on.
+// Raises the sizes, and the sums from zero, until a pass raises nothing. What is there at the start has no causes.
 fn solve(
     t: &[u8],
     choice: &[u8],
     known: Known,
+    from: [Size; 2304],
     order: &[u16],
     causes: &mut [u16],
     stamps: &mut [u32],
@@ -73,11 +75,13 @@ fn solve(
     passes: &mut u32,
 ) -> [Size; 2304]
     requires { ⌜ Ready (now t) (known .of) × Sets (programOf (now t)) (known .synchronising) (known .reached) ⌝ }
+    requires { ⌜ Derived (programOf (now t)) (member (known .synchronising)) (member (known .reached)) (at (now choice)) (at (map valueOf from)) ⌝ }
     requires { ⌜ (now causes ≡ replicate 3840 65535) × (length (now stamps) ≡ 3841) ⌝ }
     requires { ⌜ (512 ≤ length (now afters)) × (512 ≤ length (now befores)) ⌝ }
     ensures { λ r. ⌜ SizesOf (programOf (now (t .entry))) (member (known .synchronising)) (at (now (choice .entry))) (at (map valueOf r)) (at (now (afters .exit))) (at (now (befores .exit))) ⌝ }
+    ensures { λ r. ⌜ Derived (programOf (now (t .entry))) (member (known .synchronising)) (member (known .reached)) (at (now (choice .entry))) (at (map valueOf r)) ⌝ }
 {
-    let mut sizes = zero_sizes();
+    let mut sizes = from;
     let mut after = zero_sums();
     let mut before = zero_sums();
     let mut through = zero_sums();
@@ -138,8 +142,43 @@ fn solve(
     }
 }
 
-// The least sizes of a choice. Beside them it writes the sums of nodes that safety asks for, and how many passes it took;
-// of that number nothing is promised, and programs with stored output hold it.
+// The least sizes of a choice, from sizes that its rules derive on: those of a smaller choice, or zeros. Beside them it writes
+// the sums of nodes that safety asks for, and how many passes it took; of that number nothing is promised, and programs with
+// stored output hold it.
+pub fn find_from(
+    t: &[u8],
+    choice: &[u8],
+    known: Known,
+    from: [Size; 2304],
+    after: &mut [u32],
+    before: &mut [u32],
+    passes: &mut u32,
+) -> [Size; 2304]
+    requires { ⌜ Ready (now t) (known .of) × Sets (programOf (now t)) (known .synchronising) (known .reached) ⌝ }
+    requires { ⌜ Derived (programOf (now t)) (member (known .synchronising)) (member (known .reached)) (at (now choice)) (at (map valueOf from)) ⌝ }
+    requires { ⌜ (512 ≤ length (now after)) × (512 ≤ length (now before)) ⌝ }
+    ensures { λ r. ⌜ SizesOf (programOf (now (t .entry))) (member (known .synchronising)) (at (now (choice .entry))) (at (map valueOf r)) (at (now (after .exit))) (at (now (before .exit))) ⌝ }
+    ensures { λ r. ⌜ Derived (programOf (now (t .entry))) (member (known .synchronising)) (member (known .reached)) (at (now (choice .entry))) (at (map valueOf r)) ⌝ }
+{
+    let mut causes = [65535u16; 3840];
+    let mut stamps = [0u32; 3841];
+    let mut order = [0u16; 1024];
+    order_edges(t, known.of, &mut order);
+    solve(
+        t,
+        choice,
+        known,
+        from,
+        &order,
+        &mut causes,
+        &mut stamps,
+        after,
+        before,
+        passes,
+    )
+}
+
+// The same, from zeros.
 pub fn find(
     t: &[u8],
     choice: &[u8],
@@ -151,22 +190,9 @@ pub fn find(
     requires { ⌜ Ready (now t) (known .of) × Sets (programOf (now t)) (known .synchronising) (known .reached) ⌝ }
     requires { ⌜ (512 ≤ length (now after)) × (512 ≤ length (now before)) ⌝ }
     ensures { λ r. ⌜ SizesOf (programOf (now (t .entry))) (member (known .synchronising)) (at (now (choice .entry))) (at (map valueOf r)) (at (now (after .exit))) (at (now (before .exit))) ⌝ }
+    ensures { λ r. ⌜ Derived (programOf (now (t .entry))) (member (known .synchronising)) (member (known .reached)) (at (now (choice .entry))) (at (map valueOf r)) ⌝ }
 {
-    let mut causes = [65535u16; 3840];
-    let mut stamps = [0u32; 3841];
-    let mut order = [0u16; 1024];
-    order_edges(t, known.of, &mut order);
-    solve(
-        t,
-        choice,
-        known,
-        &order,
-        &mut causes,
-        &mut stamps,
-        after,
-        before,
-        passes,
-    )
+    find_from(t, choice, known, zero_sizes(), after, before, passes)
 }
 
 // Finds the least sizes of a choice, and writes them.

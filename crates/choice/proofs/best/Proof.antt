@@ -1,8 +1,13 @@
-use mathlib.Core.Path.{refl, sym, ap, _∙_}
+use Prim.Native.Nat.{_+_, _*_}
+use mathlib.Core.Path.{_≡_, refl, sym, ap, _∙_}
+use mathlib.Core.List.{map}
 use native.Mathlib.Omega.{arith}
 use lib.ListN.{length}
-use Rattle.table.proofs.Ready.{nodes-are}
-use Rattle.sizes.specs.Call.{resultOf}
+use Rattle.table.specs.Program.{programOf}
+use Rattle.table.proofs.Ready.{few-functions, few-nodes, functions-are, nodes-are}
+use Rattle.size.specs.Size.{valueOf}
+use Rattle.sizes.specs.Rules.{entries}
+use Rattle.sizes.specs.Call.{choiceOf, resultOf}
 use Rattle.choice.specs.Call.{bestCall}
 use Rattle.choice.proofs.Calls.{admission}
 use borrow.Author.Needs.{needs}
@@ -22,21 +27,33 @@ choose-requires : tie.Need-choose-requires
 choose-requires c κs =
     let a = c .before .before .before .before .before .before .before .before .before .before .args in
     let d = c .before .before .before .before .before .before .admit in
+    let of = d .result .known .of in
     let q = admission (bestCall (a .t .now) (length (a .verdicts .now)) (length (a .sizes .now))) (d .result .answer) (d .result .known) (c .before .before .before .enum-told .given .1) (d .ensures .0) (d .ensures .1) in
-    ((q .ready, q .sets), omega (arith, q .choice-fits, nodes-are (a .t .now) (d .result .known .of) (q .ready)))
+    ((q .ready, q .sets), omega (arith, q .choice-fits, nodes-are (a .t .now) of (q .ready)))
 
-slice-aggregate-put : tie.Need-slice-aggregate-put
-slice-aggregate-put c = search needs
+add-count : tie.Need-add-count
+add-count c =
+    let a = c .before .before .before .before .before .before .before .before .before .before .before .before .before .before .args in
+    let d = c .before .before .before .before .before .before .before .before .before .before .admit in
+    let of = d .result .known .of in
+    let q = admission (bestCall (a .t .now) (length (a .verdicts .now)) (length (a .sizes .now))) (d .result .answer) (d .result .known) (c .before .before .before .before .before .before .before .enum-told .given .1) (d .ensures .0) (d .ensures .1) in
+    omega (arith, few-functions (a .t .now) of (q .ready), few-nodes (a .t .now) of (q .ready))
 
-slice-aggregate-put-2 : tie.Need-slice-aggregate-put-2
-slice-aggregate-put-2 c = search needs
+mul-count : tie.Need-mul-count
+mul-count c =
+    let a = c .before .before .before .before .before .before .before .before .before .before .before .before .before .before .args in
+    let d = c .before .before .before .before .before .before .before .before .before .before .admit in
+    let of = d .result .known .of in
+    let q = admission (bestCall (a .t .now) (length (a .verdicts .now)) (length (a .sizes .now))) (d .result .answer) (d .result .known) (c .before .before .before .before .before .before .before .enum-told .given .1) (d .ensures .0) (d .ensures .1) in
+    omega (arith, few-functions (a .t .now) of (q .ready), few-nodes (a .t .now) of (q .ready))
 
-put-requires : tie.Need-put-requires
-put-requires c κs =
-    let a = c .before .before .before .before .before .before .before .before .before .before .before .before .before .before .before .before .before .args in
-    let d = c .before .before .before .before .before .before .before .before .before .before .before .before .before .admit in
-    let q = admission (bestCall (a .t .now) (length (a .verdicts .now)) (length (a .sizes .now))) (d .result .answer) (d .result .known) (c .before .before .before .before .before .before .before .before .before .before .enum-told .given .1) (d .ensures .0) (d .ensures .1) in
-    ((q .ready, q .sets), (omega arith, omega arith, q .sizes-fits))
+write-sizes-requires : tie.Need-write-sizes-requires
+write-sizes-requires c κs =
+    let a = c .before .before .before .before .before .before .before .before .before .before .before .before .before .before .before .args in
+    let d = c .before .before .before .before .before .before .before .before .before .before .before .admit in
+    let of = d .result .known .of in
+    let q = admission (bestCall (a .t .now) (length (a .verdicts .now)) (length (a .sizes .now))) (d .result .answer) (d .result .known) (c .before .before .before .before .before .before .before .before .enum-told .given .1) (d .ensures .0) (d .ensures .1) in
+    (omega (arith, few-functions (a .t .now) of (q .ready), few-nodes (a .t .now) of (q .ready)), omega (arith, q .sizes-fits, functions-are (a .t .now) of (q .ready), nodes-are (a .t .now) of (q .ready)))
 
 returns : tie.Need-returns
 returns c = (sym (ap resultOf (c .before .answer .given .1)) ∙ c .before .before .before .before .admit .ensures .0, (refl, refl))
@@ -49,12 +66,13 @@ same-length-2 c = search needs
 
 returns-2 : tie.Need-returns-2
 returns-2 c =
-    let a = c .before .before .before .before .before .before .before .before .before .before .before .before .before .before .before .before .before .before .before .before .before .before .args in
-    let d = c .before .before .before .before .before .before .before .before .before .before .before .before .before .before .before .before .before .before .admit in
-    let q = admission (bestCall (a .t .now) (length (a .verdicts .now)) (length (a .sizes .now))) (d .result .answer) (d .result .known) (c .before .before .before .before .before .before .before .before .before .before .before .before .before .before .before .enum-told .given .1) (d .ensures .0) (d .ensures .1) in
-    let x = c .before .before .before .before .before .before .before .before .before .before .before .choose .ensures in
-    let y = c .before .before .before .before .put .ensures .1 in
-    (q .done-is, record { returned = x .returned (y .0) (y .1); written = x .written; sizes = y })
+    let a = c .before .before .before .before .before .before .before .before .before .before .before .before .before .before .before .before .before .before .args in
+    let d = c .before .before .before .before .before .before .before .before .before .before .before .before .before .before .admit in
+    let of = d .result .known .of in
+    let q = admission (bestCall (a .t .now) (length (a .verdicts .now)) (length (a .sizes .now))) (d .result .answer) (d .result .known) (c .before .before .before .before .before .before .before .before .before .before .before .enum-told .given .1) (d .ensures .0) (d .ensures .1) in
+    let x = c .before .before .before .before .before .before .before .choose .ensures in
+    let e : 4 * (of .functions + of .nodes) ≡ entries (programOf (a .t .now)) = omega (arith, functions-are (a .t .now) of (q .ready), nodes-are (a .t .now) of (q .ready)) in
+    (q .done-is, record { returned = x .returned; written = x .written; sizes = (choiceOf (map valueOf (c .before .before .before .before .before .before .before .choose .result)), x .sizes-are, rw e at (c .before .before .write-sizes .ensures)) })
 
 pub best-spec : {M : Type 1} → statement M
 best-spec =
@@ -64,9 +82,9 @@ best-spec =
     enum-known-answer
     enum-told
     choose-requires
-    slice-aggregate-put
-    slice-aggregate-put-2
-    put-requires
+    add-count
+    mul-count
+    write-sizes-requires
     returns
     same-length
     same-length-2

@@ -1,27 +1,22 @@
-use Prim.Native.Nat.{ℕ}
-use mathlib.Core.Path.{refl}
-use lib.ListN.{length-replicate}
+use mathlib.Core.List.{map}
+use Rattle.table.specs.Program.{programOf}
+use Rattle.sync.specs.Words.{member}
+use Rattle.size.specs.Size.{valueOf}
+use Rattle.sizes.specs.Causes.{at}
+use Rattle.sizes.proofs.Laws.{derived-zeros}
 use borrow.Author.Needs.{needs}
 use Rattle.sizes.proofs.find.find.Statement.{statement}
 use Rattle.sizes.proofs.find.find.Tie as tie
 
-slice-aggregate-order-edges : tie.Need-slice-aggregate-order-edges
-slice-aggregate-order-edges c = search needs
+zero-sizes-requires : tie.Need-zero-sizes-requires
+zero-sizes-requires c κs = search needs
 
-order-edges-requires : tie.Need-order-edges-requires
-order-edges-requires c κs = search needs
-
-slice-aggregate-solve : tie.Need-slice-aggregate-solve
-slice-aggregate-solve c = search needs
-
-slice-aggregate-solve-2 : tie.Need-slice-aggregate-solve-2
-slice-aggregate-solve-2 c = search needs
-
-slice-aggregate-solve-3 : tie.Need-slice-aggregate-solve-3
-slice-aggregate-solve-3 c = search needs
-
-solve-requires : tie.Need-solve-requires
-solve-requires c κs = (c .before .before .before .before .before .before .before .before .before .before .before .before .before .pre .0, ((refl, length-replicate {A = ℕ} 3841 0), c .before .before .before .before .before .before .before .before .before .before .before .before .before .pre .1))
+find-from-requires : tie.Need-find-from-requires
+find-from-requires c κs =
+    let a = c .before .before .before .before .before .before .before .before .args in
+    let z = c .before .before .before .zero-sizes in
+    let zeros = derived-zeros (programOf (a .t .now)) (member (a .known .synchronising)) (member (a .known .reached)) (at (a .choice .now)) (map valueOf (z .result)) 2304 (z .ensures) in
+    (c .before .before .before .before .before .before .before .before .pre .0, (zeros, c .before .before .before .before .before .before .before .before .pre .1))
 
 same-length : tie.Need-same-length
 same-length c = search needs
@@ -34,14 +29,4 @@ returns c = search needs
 
 pub find-spec : {M : Type 1} → statement M
 find-spec =
-    tie.close
-    (tie.spec
-    slice-aggregate-order-edges
-    order-edges-requires
-    slice-aggregate-solve
-    slice-aggregate-solve-2
-    slice-aggregate-solve-3
-    solve-requires
-    same-length
-    same-length-2
-    returns)
+    tie.close (tie.spec zero-sizes-requires find-from-requires same-length same-length-2 returns)

@@ -47,7 +47,7 @@ returns c =
     let a = c .before .before .before .before .before .before .before .before .before .before .before .before .before .before .before .before .before .before .args in
     let pre = c .before .before .before .before .before .before .before .before .before .before .before .before .before .before .before .before .before .before .pre in
     let e : 4 * (a .known .of .functions + a .known .of .nodes) ≡ entries (programOf (a .t .now)) = omega (arith, functions-are (a .t .now) (a .known .of) (pre .0 .0), nodes-are (a .t .now) (a .known .of) (pre .0 .0)) in
-    (c .before .before .before .before .before .before .before .before .before .find .ensures, (at (map valueOf (c .before .before .before .before .before .before .before .before .before .find .result)), (member (a .known .synchronising), pre .0 .1 .set, c .before .before .before .before .before .before .before .before .before .find .ensures .least), rw e at (c .before .before .write-sizes .ensures)))
+    (c .before .before .before .before .before .before .before .before .before .find .ensures .0, (at (map valueOf (c .before .before .before .before .before .before .before .before .before .find .result)), (member (a .known .synchronising), pre .0 .1 .set, c .before .before .before .before .before .before .before .before .before .find .ensures .0 .least), rw e at (c .before .before .write-sizes .ensures)))
 
 pub put-spec : {M : Type 1} → statement M
 put-spec =
