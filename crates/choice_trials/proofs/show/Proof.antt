@@ -25,7 +25,7 @@ slice-aggregate-choose : tie.Need-slice-aggregate-choose
 slice-aggregate-choose c = search needs
 
 choose-requires : tie.Need-choose-requires
-choose-requires c κs = 
+choose-requires c κs =
     let a = c .before .before .before .before .before .before .before .before .before .before .before .before .args in
     let d = c .before .before .before .before .before .before .admit in
     let q = admission (bestCall (a .t .now) 512 2304) (d .result .answer) (d .result .known) (c .before .before .before .enum-told .given .1) (d .ensures .0) (d .ensures .1) in
