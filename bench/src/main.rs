@@ -1,0 +1,102 @@
+//! Measures the best-choice call and the call for one choice against the second implementation, in one run. Of a ratio above 1 the
+//! proved library is the faster one. The choice of the second call is the best one.
+
+mod tables;
+
+use std::time::{Duration, Instant};
+
+extern "C" {
+    fn nagbiro_best_choice(
+        table: *const u8,
+        table_length: usize,
+        verdicts: *mut u8,
+        verdicts_length: usize,
+        sizes: *mut u32,
+        sizes_length: usize,
+        place: *mut usize,
+    ) -> u32;
+    fn nagbiro_one_choice(
+        table: *const u8,
+        table_length: usize,
+        choice: *const u8,
+        choice_length: usize,
+        sizes: *mut u32,
+        sizes_length: usize,
+        safe: *mut u32,
+        place: *mut usize,
+    ) -> u32;
+    fn nagbiro_best_effort(table: *const u8, table_length: usize, trials: *mut u32, passes: *mut u32) -> u32;
+    fn nagbiro_one_effort(
+        table: *const u8,
+        table_length: usize,
+        choice: *const u8,
+        choice_length: usize,
+        passes: *mut u32,
+    ) -> u32;
+}
+
+fn best(table: &[u8]) -> (Vec<u8>, Vec<u32>) {
+    let (mut verdicts, mut sizes, mut place) = (vec![0; 512], vec![0; 2304], 0);
+    let (v, s) = (verdicts.as_mut_ptr(), sizes.as_mut_ptr());
+    let number = unsafe { nagbiro_best_choice(table.as_ptr(), table.len(), v, 512, s, 2304, &mut place) };
+    assert_eq!(number, 0, "refused {number} at {place}");
+    (verdicts, sizes)
+}
+
+fn one(table: &[u8], choice: &[u8]) -> (bool, Vec<u32>) {
+    let (mut sizes, mut safe, mut place) = (vec![0; 2304], 0, 0);
+    let (c, s) = (choice.as_ptr(), sizes.as_mut_ptr());
+    let number =
+        unsafe { nagbiro_one_choice(table.as_ptr(), table.len(), c, choice.len(), s, 2304, &mut safe, &mut place) };
+    assert_eq!(number, 0, "refused {number} at {place}");
+    (safe == 1, sizes)
+}
+
+// The trials and passes of the best-choice call, and the passes of the call for one choice.
+fn effort(table: &[u8], choice: &[u8]) -> (u32, u32, u32) {
+    let (mut trials, mut passes, mut alone) = (0, 0, 0);
+    unsafe {
+        nagbiro_best_effort(table.as_ptr(), table.len(), &mut trials, &mut passes);
+        nagbiro_one_effort(table.as_ptr(), table.len(), choice.as_ptr(), choice.len(), &mut alone);
+    }
+    (trials, passes, alone)
+}
+
+// What a call gives, and its time in milliseconds, from as many calls as fit into a third of a second.
+fn time<T>(call: impl Fn() -> T) -> (T, f64) {
+    let start = Instant::now();
+    let (mut result, mut calls) = (call(), 1);
+    while start.elapsed() < Duration::from_millis(300) {
+        result = std::hint::black_box(call());
+        calls += 1;
+    }
+    (result, start.elapsed().as_secs_f64() * 1e3 / f64::from(calls))
+}
+
+fn rounds(table: &[u8], choice: &[u8]) -> u64 {
+    let program = second::table::check(table).expect("an accepted table");
+    let set = second::sync::synchronising(&program);
+    second::sizes::least(&program, &set, choice).rounds
+}
+
+fn main() {
+    println!("| Table | Best choice, ms | Ratio | Trials | Passes | One choice, ms | Ratio | Passes | Rounds of the second |");
+    println!("|---|---|---|---|---|---|---|---|---|");
+    for table in tables::tables() {
+        let bytes = &table.bytes;
+        let ((verdicts, written), ours) = time(|| best(bytes));
+        let (answer, theirs) = time(|| second::choice::best(bytes, 512, 2304));
+        let (choice, sizes) = answer.expect("an accepted table");
+        assert!(verdicts[..choice.len()] == choice && written[..sizes.len()] == sizes, "{}: they differ", table.name);
+        let (_, our_one) = time(|| one(bytes, &choice));
+        let (_, their_one) = time(|| second::safety::one_choice(bytes, &choice, 2304));
+        let (trials, passes, alone) = effort(bytes, &choice);
+        println!(
+            "| {} | {ours:.3} | {:.2} | {trials} | {passes} | {our_one:.3} | {:.2} | {alone} | {} |",
+            table.name,
+            theirs / ours,
+            their_one / our_one,
+            rounds(bytes, &choice),
+        );
+    }
+}
