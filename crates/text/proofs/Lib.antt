@@ -1,0 +1,4 @@
+pub mod Appending
+pub mod Decimal
+pub mod Texts
+pub mod Whole

@@ -1,0 +1,5 @@
+-- What is believed.
+pub mod Listing
+-- What only helps proofs.
+pub mod Append
+pub mod Printed
