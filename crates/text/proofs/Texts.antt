@@ -8,7 +8,7 @@ use lib.Dec.{eqb}
 use lib.ListN.{length, length-append}
 use borrow.Author.Tests.{eq-eqb, ne-eqb}
 use Rattle.table.specs.Program.{Program}
-use Rattle.text.specs.Listing.{decimal, fourFields, verdictWord, functionLine, spawnLine, ofNodeText}
+use Rattle.text.specs.Listing.{decimal, fourFields, verdictWord, functionLine, spawnLine, joined, ofNodeText}
 use Rattle.text.proofs.Decimal.{decimal-short, four-short, verdict-short}
 
 pub function-short : (of : ℕ → ℕ) (f : ℕ) → length (functionLine of f) ≤ 107
@@ -32,3 +32,10 @@ module _ (g : Program) (choice sizes : ℕ → ℕ) (n : ℕ) where
 
   pub node-other : (g .sort n ≡ 2 → ⊥) → [] ≡ ofNodeText g choice sizes n
   node-other s = rw (ne-eqb (g .sort n) 2 s) refl
+
+pub functions-short : (of : ℕ → ℕ → ℕ) (n : ℕ) → length (joined (λ f. functionLine (of f) f) n) ≤ 107 * n
+unfolding joined
+functions-short of zero = omega arith
+functions-short of (suc n) =
+    omega
+    (arith, functions-short of n, function-short (of n) n, length-append (joined (λ f. functionLine (of f) f) n) (functionLine (of n) n))
