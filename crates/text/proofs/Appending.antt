@@ -4,7 +4,7 @@ use mathlib.Core.Path.{_≡_, refl, sym, ap, _∙_}
 use mathlib.Core.List.{List, [], _∷_, _++_, append-assoc, append-nil}
 use native.Mathlib.Omega.{arith}
 use native.Mathlib.Numerals.{add-one}
-use lib.ListN.{length, getD, set, take, length-set, length-append}
+use lib.ListN.{length, getD, set, take, length-set, length-append, length-take}
 use lib.Seq.{take-suc, take-suc-set, take-all}
 use Rattle.text.specs.Append.{Appended}
 use Rattle.text.specs.Listing.{joined}
@@ -38,6 +38,12 @@ appended-room n m p s h = omega (arith, p .ends, p .long)
 
 pub appended-end : (n : ℕ) {old a new : List ℕ} {at r : ℕ} → Appended old at a new r → length a ≤ n → r ≤ at + n
 appended-end n p s = omega (arith, p .ends)
+
+-- the bytes stand within the buffer
+pub appended-within : {old a new : List ℕ} {at r : ℕ} → Appended old at a new r → at ≤ length old → r ≤ length new
+appended-within {old} {a} {new} {at} {r} p h =
+    omega
+    (arith, p .ends, length-take r new, ap length (p .text), length-append (take at old) a, length-take at old)
 
 -- texts one after another
 pub joined-none : (text : ℕ → List ℕ) (old : List ℕ) (at : ℕ) → Appended old at (joined text 0) old at

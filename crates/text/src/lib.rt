@@ -59,6 +59,7 @@ fn put_best(out: &mut [u8], t: &[u8], of: Counts) -> usize
 fn put_text(out: &mut [u8], t: &[u8]) -> usize
     requires { ⌜ 66752 ≤ length (now out) ⌝ }
     ensures { λ r. ⌜ ListingOf (now (t .entry)) (take r (now (out .exit))) ⌝ }
+    ensures { λ r. ⌜ r ≤ length (now (out .exit)) ⌝ }
 {
     if 12800 < t.len() {
         return put_word(out, 0, b"too long\n");
@@ -72,6 +73,7 @@ fn put_text(out: &mut [u8], t: &[u8]) -> usize
 // What the program prints for a table of any length.
 pub fn listing(t: &[u8]) -> Text
     ensures { λ r. ⌜ ListingOf (now (t .entry)) (take (r .length) (r .bytes)) ⌝ }
+    ensures { λ r. ⌜ r .length ≤ length (r .bytes) ⌝ }
 {
     let mut bytes = room();
     let length = put_text(&mut bytes, t);

@@ -3,6 +3,7 @@ use native.Mathlib.Omega.{arith}
 use Rattle.table.specs.Answer.{outcomeOf}
 use Rattle.table.proofs.Laws.{answer-accepted}
 use Rattle.text.specs.Listing.{too-long, refused, accepted}
+use Rattle.text.proofs.Appending.{appended-within}
 use borrow.Author.Needs.{needs}
 use Rattle.text.proofs.put_text.Statement.{statement}
 use Rattle.text.proofs.put_text.Tie as tie
@@ -17,7 +18,7 @@ same-length : tie.Need-same-length
 same-length c = search needs
 
 returns : tie.Need-returns
-returns c = too-long (c .before .before .before .before .before .if1 .taken) (c .before .before .put-word .ensures .text)
+returns c = (too-long (c .before .before .before .before .before .if1 .taken) (c .before .before .put-word .ensures .text), appended-within (c .before .before .put-word .ensures) (omega arith))
 
 check-requires : tie.Need-check-requires
 check-requires c κs = search needs
@@ -39,14 +40,14 @@ same-length-2 c = search needs
 
 returns-2 : tie.Need-returns-2
 returns-2 c = let p = c .before .before .put-best .ensures in
-    accepted {t = c .before .before .before .before .before .before .before .before .before .before .before .args .t .now} (omega arith) ((answer-accepted (c .before .before .before .before .before .before .before .before .before .before .before .args .t .now) (c .before .before .before .before .before .of .given .0 .0) (sym (ap outcomeOf (c .before .before .before .before .before .of .given .1)) ∙ c .before .before .before .before .before .before .before .check .ensures)) .accepted-is) (p .choice) (p .sizes) (p .returned) (p .least) (p .appended .text)
+    (accepted {t = c .before .before .before .before .before .before .before .before .before .before .before .args .t .now} (omega arith) ((answer-accepted (c .before .before .before .before .before .before .before .before .before .before .before .args .t .now) (c .before .before .before .before .before .of .given .0 .0) (sym (ap outcomeOf (c .before .before .before .before .before .of .given .1)) ∙ c .before .before .before .before .before .before .before .check .ensures)) .accepted-is) (p .choice) (p .sizes) (p .returned) (p .least) (p .appended .text), appended-within (p .appended) (omega arith))
 
 same-length-3 : tie.Need-same-length-3
 same-length-3 c = search needs
 
 returns-3 : tie.Need-returns-3
 returns-3 c = let g = c .before .before .before .before .before .number .given in
-    refused {t = c .before .before .before .before .before .before .before .before .before .before .before .args .t .now} (omega arith) (g .0 .0) (g .0 .1 .0) (sym (c .before .before .before .before .before .before .before .check .ensures) ∙ ap outcomeOf (g .1)) (c .before .before .put-refusal .ensures .text)
+    (refused {t = c .before .before .before .before .before .before .before .before .before .before .before .args .t .now} (omega arith) (g .0 .0) (g .0 .1 .0) (sym (c .before .before .before .before .before .before .before .check .ensures) ∙ ap outcomeOf (g .1)) (c .before .before .put-refusal .ensures .text), appended-within (c .before .before .put-refusal .ensures) (omega arith))
 
 pub put-text-spec : {M : Type 1} → statement M
 put-text-spec =
