@@ -1,4 +1,4 @@
 pub mod Appending
-pub mod Decimal
+pub mod Fields
 pub mod Texts
 pub mod Whole

@@ -1,15 +1,15 @@
 -- The lines of a listing: how long they are, and which one a node has.
-use Prim.Native.Nat.{ℕ, zero, suc, _+_, _*_, _<_, _≤_}
-use mathlib.Core.Path.{_≡_, refl, sym, ap, ap₂, _∙_}
+use Prim.Native.Nat.{ℕ, zero, suc, _+_, _*_, _≤_}
+use mathlib.Core.Path.{_≡_, refl}
 use mathlib.Core.Bool.{Bool, true, false, cond}
-use mathlib.Core.List.{List, [], _++_}
+use mathlib.Core.List.{[]}
 use native.Mathlib.Omega.{arith}
 use lib.Dec.{eqb}
 use lib.ListN.{length, length-append}
 use borrow.Author.Tests.{eq-eqb, ne-eqb}
 use Rattle.table.specs.Program.{Program}
-use Rattle.text.specs.Listing.{decimal, fourFields, verdictWord, functionLine, spawnLine, joined, ofNodeText}
-use Rattle.text.proofs.Decimal.{decimal-short, four-short, verdict-short}
+use Rattle.text.specs.Listing.{functionLine, spawnLine, joined, ofNodeText}
+use Rattle.text.proofs.Fields.{decimal-short, four-short, verdict-short}
 
 pub function-short : (of : ℕ → ℕ) (f : ℕ) → length (functionLine of f) ≤ 107
 unfolding functionLine

@@ -1,11 +1,11 @@
 -- The whole text: it is that of the least sizes, which the best-choice call has written.
 use Prim.Native.Nat.{ℕ, zero, suc, _+_, _*_, _<_, _≤_}
-use mathlib.Core.Path.{_≡_, refl, sym, ap, ap₂, _∙_, subst}
+use mathlib.Core.Path.{_≡_, refl, ap, ap₂, subst}
 use mathlib.Core.Bool.{cond}
 use mathlib.Core.List.{List, [], _++_}
 use native.Mathlib.Omega.{arith}
 use lib.Dec.{eqb}
-use lib.ListN.{length, getD, take}
+use lib.ListN.{length}
 use Rattle.table.specs.Record.{spawn}
 use Rattle.table.specs.Answer.{Ready}
 use Rattle.table.specs.Program.{Program, programOf}

@@ -1,7 +1,7 @@
 use mathlib.Core.Path.{_∙_}
 use native.Mathlib.Omega.{arith}
 use Rattle.text.proofs.Appending.{appended-as}
-use Rattle.text.proofs.Decimal.{few-places, decimal-spelled}
+use Rattle.text.proofs.Fields.{few-places, decimal-spelled}
 use borrow.Author.Needs.{needs}
 use Rattle.text.proofs.append.put_decimal.Statement.{statement}
 use Rattle.text.proofs.append.put_decimal.Tie as tie

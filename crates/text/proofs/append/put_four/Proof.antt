@@ -1,6 +1,6 @@
 use native.Mathlib.Omega.{arith}
 use Rattle.text.proofs.Appending.{appended-as, appended-then, appended-room}
-use Rattle.text.proofs.Decimal.{field-short, four-from}
+use Rattle.text.proofs.Fields.{field-short, four-from}
 use borrow.Author.Needs.{needs}
 use Rattle.text.proofs.append.put_four.Statement.{statement}
 use Rattle.text.proofs.append.put_four.Tie as tie

@@ -1,5 +1,5 @@
 use Rattle.text.proofs.Appending.{appended-as}
-use Rattle.text.proofs.Decimal.{size-unbounded, size-bytes}
+use Rattle.text.proofs.Fields.{size-unbounded, size-bytes}
 use borrow.Author.Needs.{needs}
 use Rattle.text.proofs.append.put_size.Statement.{statement}
 use Rattle.text.proofs.append.put_size.Tie as tie

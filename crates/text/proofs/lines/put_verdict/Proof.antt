@@ -1,5 +1,5 @@
 use Rattle.text.proofs.Appending.{appended-as}
-use Rattle.text.proofs.Decimal.{verdict-unmerged, verdict-guarded, verdict-unguarded}
+use Rattle.text.proofs.Fields.{verdict-unmerged, verdict-guarded, verdict-unguarded}
 use borrow.Author.Needs.{needs}
 use Rattle.text.proofs.lines.put_verdict.Statement.{statement}
 use Rattle.text.proofs.lines.put_verdict.Tie as tie

@@ -1,6 +1,6 @@
--- Numbers in decimal: as they are spelled, and how long they are.
+-- Numbers, sizes and verdicts as text: as they are spelled, and how long they are at most.
 use Prim.Native.Nat.{ℕ, zero, suc, _+_, _-_, _*_, _<_, _≤_, _/_, _%_, _^_}
-use mathlib.Core.Path.{_≡_, refl, sym, ap, _∙_}
+use mathlib.Core.Path.{_≡_, refl}
 use mathlib.Core.Bool.{Bool, true, false, cond}
 use mathlib.Core.List.{List, [], _∷_, _++_}
 use native.Mathlib.Omega.{arith}
