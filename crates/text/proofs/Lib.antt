@@ -1,4 +1,7 @@
-pub mod Appending
-pub mod Fields
-pub mod Texts
-pub mod Whole
+-- For the crates above: the law of the text.
+pub mod Laws
+-- How the promises come about.
+mod Appending
+mod Fields
+mod Texts
+mod Whole

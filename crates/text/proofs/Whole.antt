@@ -34,16 +34,17 @@ function-same : (a b : ℕ → ℕ) (f : ℕ) → ((k : ℕ) → k ≤ 3 → a k
 unfolding functionLine
 function-same a b f e = rw (four-same a b e) refl
 
-spawn-same : (v : ℕ) (a b : ℕ → ℕ) (n : ℕ) → ((k : ℕ) → k ≤ 3 → a k ≡ b k) → spawnLine v a n ≡ spawnLine v b n
+spawn-same : (v w : ℕ) (a b : ℕ → ℕ) (n : ℕ) → v ≡ w → ((k : ℕ) → k ≤ 3 → a k ≡ b k) → spawnLine v a n ≡ spawnLine w b n
 unfolding spawnLine
-spawn-same v a b n e = rw (four-same a b e) refl
+spawn-same v w a b n d e = rw (d, four-same a b e) refl
 
-listing-same : (g : Program) (choice a b : ℕ → ℕ) → ((x : ℕ) → x < entries g → a x ≡ b x) → listing g choice a ≡ listing g choice b
+-- only the verdicts and the sizes that there are count
+pub listing-same : (g : Program) (c d a b : ℕ → ℕ) → ((n : ℕ) → n < g .nodes → c n ≡ d n) → ((x : ℕ) → x < entries g → a x ≡ b x) → listing g c a ≡ listing g d b
 unfolding listing
-listing-same g choice a b e =
+listing-same g c d a b v e =
     ap₂ (λ (x y : List ℕ). x ++ y)
     (joined-same (ofFunctionText g a) (ofFunctionText g b) (g .functions) (λ f h. function-same (λ k. a (4 * f + k)) (λ k. b (4 * f + k)) f (λ k l. e (4 * f + k) (omega arith))))
-    (joined-same (ofNodeText g choice a) (ofNodeText g choice b) (g .nodes) (λ n h. ap (λ (l : List ℕ). cond (eqb (g .sort n) spawn) l []) (spawn-same (choice n) (λ k. a (4 * (g .functions + n) + k)) (λ k. b (4 * (g .functions + n) + k)) n (λ k l. e (4 * (g .functions + n) + k) (omega arith)))))
+    (joined-same (ofNodeText g c a) (ofNodeText g d b) (g .nodes) (λ n h. ap (λ (l : List ℕ). cond (eqb (g .sort n) spawn) l []) (spawn-same (c n) (d n) (λ k. a (4 * (g .functions + n) + k)) (λ k. b (4 * (g .functions + n) + k)) n (v n h) (λ k l. e (4 * (g .functions + n) + k) (omega arith)))))
 
 -- what the best-choice call has left, as lines
 module _ (t oldVerdicts newVerdicts oldSizes newSizes : List ℕ) (answer : Answer) (of : Counts) (ready : Ready t of) (v : length oldVerdicts ≡ 512) (s : length oldSizes ≡ 2304) (is : resultOf answer ≡ bestResult (bestCall t (length oldVerdicts) (length oldSizes))) (leaves : LeavesBoth t oldVerdicts newVerdicts oldSizes newSizes answer) where
@@ -60,5 +61,5 @@ module _ (t oldVerdicts newVerdicts oldSizes newSizes : List ℕ) (answer : Answ
         sizes = l .sizes .0;
         returned = x .1;
         least = l .sizes .1;
-        appended = appended-as (listing-same (programOf t) (at newVerdicts) (at newSizes) (l .sizes .0) (w .written)) (appended-then (rw f at p) (rw n at q));
+        appended = appended-as (listing-same (programOf t) (at newVerdicts) (at newVerdicts) (at newSizes) (l .sizes .0) (λ i h. refl) (w .written)) (appended-then (rw f at p) (rw n at q));
       }
