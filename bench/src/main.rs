@@ -3,28 +3,10 @@
 
 mod tables;
 
+use nagbiro::{nagbiro_best_choice, nagbiro_one_choice};
 use std::time::{Duration, Instant};
 
 extern "C" {
-    fn nagbiro_best_choice(
-        table: *const u8,
-        table_length: usize,
-        verdicts: *mut u8,
-        verdicts_length: usize,
-        sizes: *mut u32,
-        sizes_length: usize,
-        place: *mut usize,
-    ) -> u32;
-    fn nagbiro_one_choice(
-        table: *const u8,
-        table_length: usize,
-        choice: *const u8,
-        choice_length: usize,
-        sizes: *mut u32,
-        sizes_length: usize,
-        safe: *mut u32,
-        place: *mut usize,
-    ) -> u32;
     fn nagbiro_best_effort(table: *const u8, table_length: usize, trials: *mut u32, passes: *mut u32) -> u32;
     fn nagbiro_one_effort(
         table: *const u8,

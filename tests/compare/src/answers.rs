@@ -2,40 +2,11 @@
 //! implementation.
 
 use crate::input::{Input, BEHIND};
+use nagbiro::{nagbiro_best_choice, nagbiro_check, nagbiro_one_choice, nagbiro_synchronising};
 use second::choice::best;
 use second::safety::one_choice;
 use second::sync::synchronising;
 use second::table::check;
-
-extern "C" {
-    fn nagbiro_check(table: *const u8, table_length: usize, a: *mut usize, b: *mut usize, c: *mut usize) -> u32;
-    fn nagbiro_synchronising(
-        table: *const u8,
-        table_length: usize,
-        words: *mut u64,
-        words_length: usize,
-        place: *mut usize,
-    ) -> u32;
-    fn nagbiro_one_choice(
-        table: *const u8,
-        table_length: usize,
-        choice: *const u8,
-        choice_length: usize,
-        sizes: *mut u32,
-        sizes_length: usize,
-        safe: *mut u32,
-        place: *mut usize,
-    ) -> u32;
-    fn nagbiro_best_choice(
-        table: *const u8,
-        table_length: usize,
-        verdicts: *mut u8,
-        verdicts_length: usize,
-        sizes: *mut u32,
-        sizes_length: usize,
-        place: *mut usize,
-    ) -> u32;
-}
 
 #[derive(PartialEq, Eq, Clone, Debug)]
 pub struct Answers {
