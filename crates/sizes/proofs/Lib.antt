@@ -1,16 +1,16 @@
--- For the crates above: laws of the rules, of calls, and of lists that are written.
+-- For the crates above: laws of the rules, of calls, of lists that are written, and of the finite system.
 pub mod Laws
 pub mod Calls
 pub mod Maps
 pub mod Writing
+pub mod Rises
+pub mod Solved
 -- How the promises come about.
 mod Ahead
 mod Taking
-mod Rises
 mod Passes
 mod Along
 mod Raising
 mod Rounds
 mod Closing
 mod Derived
-mod Solved

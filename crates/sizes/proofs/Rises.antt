@@ -137,21 +137,21 @@ module _ (S : Given) where
   der-le none = omega arith
   der-le (rule r v e d h) = omega arith
 
-  der-less : {x : Entry} {t : ℕ} (u : ℕ) → u ≤ t → DerOf S x t → DerOf S x u
+  pub der-less : {x : Entry} {t : ℕ} (u : ℕ) → u ≤ t → DerOf S x t → DerOf S x u
   der-less {x} u h none = let e : u ≡ 0 = omega arith in rw e none
   der-less u h (rule r v e d k) = rule {t = u} r v e d (omega arith)
 
   lead-more : {x y : Entry} {t u : ℕ} (v : ℕ) → u ≤ v → Lead S x t y u → Lead S x t y v
   lead-more v h l = record { by = l .by; fits = omega (arith, l .fits); each = l .each }
 
-  lead-trans : {x y z : Entry} {t u w : ℕ} → Lead S x t y u → Lead S y u z w → Lead S x t z w
+  pub lead-trans : {x y z : Entry} {t u w : ℕ} → Lead S x t y u → Lead S y u z w → Lead S x t z w
   lead-trans {x} a b = record {
     by = a .by + b .by;
     fits = omega (arith, a .fits, b .fits);
     each = λ w p. der-less (cap (a .by + b .by + w)) (omega arith) (a .each (cap (b .by + w)) (b .each w p));
   }
 
-  lead-refl : (x : Entry) (t : ℕ) → Lead S x t x t
+  pub lead-refl : (x : Entry) (t : ℕ) → Lead S x t x t
   lead-refl x t = record { by = 0; fits = omega arith; each = λ w p. der-less (cap (0 + w)) (omega arith) p }
 
   -- v with t at y
@@ -175,7 +175,7 @@ module _ (S : Given) where
       fits z (no e) = der-less (max (v z) 0) (omega arith) (p z)
 
   -- what a rule asks for gains on each entry of its body
-  rule-lead : (v : Entry → ℕ) → ((z : Entry) → DerOf S z (v z)) → (r : RuleOf S) (y : Entry) → In y (formOf r .body) → Lead S (formOf r .head) (gives v (formOf r)) y (v y)
+  pub rule-lead : (v : Entry → ℕ) → ((z : Entry) → DerOf S z (v z)) → (r : RuleOf S) (y : Entry) → In y (formOf r .body) → Lead S (formOf r .head) (gives v (formOf r)) y (v y)
   rule-lead v d r y i =
       let p = split-in v i in
       record {
@@ -187,7 +187,7 @@ module _ (S : Given) where
       }
 
   -- what gains on itself reaches every size
-  pump : (x : Entry) (t u : ℕ) → Lead S x t x u → u < t → DerOf S x unbounded
+  pub pump : (x : Entry) (t u : ℕ) → Lead S x t x u → u < t → DerOf S x unbounded
   pump x t u g h = iter unbounded
     where
       iter : (i : ℕ) → DerOf S x (cap i)

@@ -3,7 +3,7 @@ pub mod admit;
 mod causes;
 pub mod find;
 mod order;
-mod sums;
+pub mod sums;
 mod targets;
 mod totals;
 

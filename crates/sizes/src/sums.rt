@@ -24,7 +24,7 @@ ghost use Rattle.sizes.specs.Known.{given, stepOn, stepOf, SumsHeld};
 // After: Post of the first node and Through of the others, on paths that end at the node with no member after the first;
 // Before: Through of all but the last and Pre of the last, on paths that start at the node with no member before the last;
 // Through: Through of all, on paths from the function's first node to the node with no member after the first.
-pub(crate) enum Sum {
+pub enum Sum {
     After,
     Before,
     Through,

@@ -2,7 +2,6 @@
 pub mod Laws
 pub mod Paths
 pub mod Members
-pub mod CaseF
 -- How the promises come about.
 mod Collected
 mod Sweeps

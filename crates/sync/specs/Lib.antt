@@ -3,6 +3,5 @@ pub mod Paths
 pub mod Synchronising
 pub mod Words
 pub mod Answer
-pub mod CaseF
 -- What only helps proofs.
 pub mod Search
