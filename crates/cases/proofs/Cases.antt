@@ -10,7 +10,7 @@ use Rattle.table.specs.Checks.{checks, broken, unlisted, outOfOrder, tooMany, n
 use Rattle.sizes.specs.Choice.{unguarded}
 use Rattle.sizes.specs.declared.sums.Sum.the-variants.{After, Before, Through}
 use Rattle.text.specs.Listing.{digits, decimal, sizeText, sizeField, fourFields, verdictWord, functionLine, spawnLine, joined, listing}
-use Rattle.cases.specs.Cases.{bytesTo, ascii, cases, CasesHold}
+use Rattle.cases.specs.Cases.{cases, CasesHold}
 use Rattle.cases.proofs.Rows.{row, rowsOf}
 use Rattle.cases.proofs.Every.{every}
 use Rattle.cases.proofs.Sets.{bits, grown, setOf, reachOf, setsTest}
@@ -76,5 +76,5 @@ evidence =
     ∷ []
 
 pub cases-hold : CasesHold
-unfolding refusal orElse checks earliest broken unlisted outOfOrder tooMany noEntry absent foreign notPlain any count kindOf sortOf fieldA fieldB fieldC functions nodes edges row rowsOf every bits grown setOf reachOf setsTest run settled safeTest orderTest choiceTest obstacle bestTest casesTest digits decimal sizeText sizeField fourFields verdictWord functionLine spawnLine joined listing bytesTo ascii
+unfolding refusal orElse checks earliest broken unlisted outOfOrder tooMany noEntry absent foreign notPlain any count kindOf sortOf fieldA fieldB fieldC functions nodes edges row rowsOf every bits grown setOf reachOf setsTest run settled safeTest orderTest choiceTest obstacle bestTest casesTest digits decimal sizeText sizeField fourFields verdictWord functionLine spawnLine joined listing
 cases-hold frame a b c d e f g = all-hold (cases frame a b c d e f g) evidence refl

@@ -1,11 +1,10 @@
 -- Document 01, "Cases to hold as one": the cases A to J. "Functions not described have one plain node."
-use Prim.Native.Nat.{ℕ, zero, suc, _/_, _%_}
-use Prim.Native.Char.{code}
-use Prim.Native.String.{String, len, charAt}
+use Prim.Native.Nat.{ℕ, _/_, _%_}
 use mathlib.Core.List.{List, [], _∷_, _++_}
 use Rattle.size.specs.Size.{unbounded}
 use Rattle.sizes.specs.Choice.{unmerged, guarded, unguarded}
 use Rattle.sizes.specs.Rules.{total, post, pre, through}
+use Rattle.text.specs.Listing.{ascii}
 use Rattle.cases.specs.Claims.{Case, AllHold, listed, best, sized, unsafe, not-synchronising, refused}
 
 -- A record's eight bytes: "Byte 0 is the kind and byte 1 the sort. Then come three 16-bit little-endian numbers a, b, c."
@@ -34,15 +33,6 @@ sync owner = record-of 2 3 owner 0 0
 
 abbrev pub edge : (from to : ℕ) → List ℕ
 edge from to = record-of 3 0 from to 0
-
--- a text's bytes, for texts in ASCII
-unfoldable pub bytesTo : String → ℕ → List ℕ
-bytesTo s zero = []
-bytesTo s (suc n) = bytesTo s n ++ (code (charAt s n) ∷ [])
-
-unfoldable pub ascii : String → List ℕ
-unfolding bytesTo
-ascii s = bytesTo s (len s)
 
 -- "A: function 0 (entry, frame 40): plain 0, spawn 1 of function 1, sync 2, spawn 3 of function 2, plain 4, edges in a line. Frames 24 and
 -- 100. Listing above."

@@ -10,7 +10,7 @@ use lib.ListN.{length, getD, length-append}
 use borrow.Author.Tests.{ltb-true, ltb-false, lt-ltb, le-ltb, eq-eqb, ne-eqb}
 use Rattle.io.specs.Digits.{Fewest}
 use Rattle.io.specs.Digits.{digits as spelled}
-use Rattle.text.specs.Listing.{digits, decimal, unboundedWord, unmergedWord, guardedWord, unguardedWord, sizeText, sizeField, fourFields, verdictWord}
+use Rattle.text.specs.Listing.{ascii, digits, decimal, sizeText, sizeField, fourFields, verdictWord}
 
 -- the fewest digits that hold a number are those with no zero in front
 same-digits : (k j n : ℕ) → n < 10 ^ suc k → (1 < suc k → 10 ^ k ≤ n) → suc k ≤ j → spelled 10 (suc k) n ≡ digits j n
@@ -64,11 +64,11 @@ pub size-short : (s : ℕ) → length (sizeText s) ≤ 20
 unfolding sizeText
 size-short s = go (eqb s 65536)
   where
-    go : (b : Bool) → length (cond b unboundedWord (decimal s)) ≤ 20
+    go : (b : Bool) → length (cond b (ascii "unbounded") (decimal s)) ≤ 20
     go true = omega arith
     go false = decimal-short s
 
-pub size-unbounded : (s : ℕ) → s ≡ 65536 → unboundedWord ≡ sizeText s
+pub size-unbounded : (s : ℕ) → s ≡ 65536 → ascii "unbounded" ≡ sizeText s
 unfolding sizeText
 size-unbounded s e = rw (eq-eqb s 65536 e) refl
 
@@ -91,15 +91,15 @@ four-from sizes x =
     let e : x + 0 ≡ x = omega arith in
     rw e refl
 
-pub verdict-unmerged : (v : ℕ) → v ≡ 1 → unmergedWord ≡ verdictWord v
+pub verdict-unmerged : (v : ℕ) → v ≡ 1 → ascii "unmerged" ≡ verdictWord v
 unfolding verdictWord
 verdict-unmerged v e = rw (eq-eqb v 1 e) refl
 
-pub verdict-guarded : (v : ℕ) → v ≡ 2 → guardedWord ≡ verdictWord v
+pub verdict-guarded : (v : ℕ) → v ≡ 2 → ascii "guarded" ≡ verdictWord v
 unfolding verdictWord
 verdict-guarded v e = rw (ne-eqb v 1 (λ x. absurd (omega arith)), eq-eqb v 2 e) refl
 
-pub verdict-unguarded : (v : ℕ) → (v ≡ 1 → ⊥) → (v ≡ 2 → ⊥) → unguardedWord ≡ verdictWord v
+pub verdict-unguarded : (v : ℕ) → (v ≡ 1 → ⊥) → (v ≡ 2 → ⊥) → ascii "unguarded" ≡ verdictWord v
 unfolding verdictWord
 verdict-unguarded v e d = rw (ne-eqb v 1 e, ne-eqb v 2 d) refl
 
@@ -107,7 +107,7 @@ pub verdict-short : (v : ℕ) → length (verdictWord v) ≤ 9
 unfolding verdictWord
 verdict-short v = go (eqb v 1) (eqb v 2)
   where
-    go : (a b : Bool) → length (cond a unmergedWord (cond b guardedWord unguardedWord)) ≤ 9
+    go : (a b : Bool) → length (cond a (ascii "unmerged") (cond b (ascii "guarded") (ascii "unguarded"))) ≤ 9
     go true b = omega arith
     go false true = omega arith
     go false false = omega arith

@@ -1,5 +1,7 @@
 -- Document 01, "The listing program": the text that is printed for a table. A text is the list of its bytes.
 use Prim.Native.Nat.{ℕ, zero, suc, _+_, _<_, _≤_, _/_, _%_}
+use Prim.Native.Char.{code}
+use Prim.Native.String.{String, len, charAt}
 use mathlib.Core.Path.{_≡_}
 use mathlib.Core.Bool.{cond}
 use mathlib.Core.List.{List, [], _∷_, _++_}
@@ -15,35 +17,13 @@ use Rattle.sizes.specs.Choice.{unmerged, guarded}
 use Rattle.sizes.specs.Rules.{total, post, pre, through, ofFunction, ofNode, LeastSizes}
 use Rattle.choice.specs.Beats.{Returned}
 
--- the words, in ASCII
-abbrev pub unboundedWord : List ℕ
-unboundedWord = 117 ∷ 110 ∷ 98 ∷ 111 ∷ 117 ∷ 110 ∷ 100 ∷ 101 ∷ 100 ∷ []
+-- The bytes of a text in ASCII: of its first n characters, and of all.
+abbrev pub bytesTo : String → ℕ → List ℕ
+bytesTo s zero = []
+bytesTo s (suc n) = bytesTo s n ++ (code (charAt s n) ∷ [])
 
-abbrev pub unmergedWord : List ℕ
-unmergedWord = 117 ∷ 110 ∷ 109 ∷ 101 ∷ 114 ∷ 103 ∷ 101 ∷ 100 ∷ []
-
-abbrev pub guardedWord : List ℕ
-guardedWord = 103 ∷ 117 ∷ 97 ∷ 114 ∷ 100 ∷ 101 ∷ 100 ∷ []
-
-abbrev pub unguardedWord : List ℕ
-unguardedWord = 117 ∷ 110 ∷ 103 ∷ 117 ∷ 97 ∷ 114 ∷ 100 ∷ 101 ∷ 100 ∷ []
-
--- `refused ` and ` at `
-abbrev pub refusedWord : List ℕ
-refusedWord = 114 ∷ 101 ∷ 102 ∷ 117 ∷ 115 ∷ 101 ∷ 100 ∷ 32 ∷ []
-
-abbrev pub atWord : List ℕ
-atWord = 32 ∷ 97 ∷ 116 ∷ 32 ∷ []
-
--- `too long` and a line feed
-abbrev pub tooLong : List ℕ
-tooLong = 116 ∷ 111 ∷ 111 ∷ 32 ∷ 108 ∷ 111 ∷ 110 ∷ 103 ∷ 10 ∷ []
-
-abbrev pub space : ℕ
-space = 32
-
-abbrev pub lineFeed : List ℕ
-lineFeed = 10 ∷ []
+abbrev pub ascii : String → List ℕ
+ascii s = bytesTo s (len s)
 
 -- A number below 10 to the k in decimal, with no zero in front.
 unfoldable pub digits : ℕ → ℕ → List ℕ
@@ -56,11 +36,11 @@ decimal n = digits 20 n
 
 -- "Unbounded prints as `unbounded`."
 unfoldable pub sizeText : ℕ → List ℕ
-sizeText s = cond (eqb s unbounded) unboundedWord (decimal s)
+sizeText s = cond (eqb s unbounded) (ascii "unbounded") (decimal s)
 
 -- "One space stands between fields."
 unfoldable pub sizeField : ℕ → List ℕ
-sizeField s = space ∷ sizeText s
+sizeField s = ascii " " ++ sizeText s
 
 -- "the four sizes", by kind: "Total, Post, Pre, Through"
 unfoldable pub fourFields : (ℕ → ℕ) → List ℕ
@@ -68,15 +48,15 @@ fourFields of = sizeField (of total) ++ sizeField (of post) ++ sizeField (of pre
 
 -- "verdict word (`unmerged`, `guarded` or `unguarded`)"
 unfoldable pub verdictWord : ℕ → List ℕ
-verdictWord v = cond (eqb v unmerged) unmergedWord (cond (eqb v guarded) guardedWord unguardedWord)
+verdictWord v = cond (eqb v unmerged) (ascii "unmerged") (cond (eqb v guarded) (ascii "guarded") (ascii "unguarded"))
 
 -- "for each function F, its number, Total, Post, Pre, Through". "Every line ends in a line feed".
 unfoldable pub functionLine : (ℕ → ℕ) → ℕ → List ℕ
-functionLine of f = (70 ∷ space ∷ []) ++ decimal f ++ fourFields of ++ lineFeed
+functionLine of f = ascii "F " ++ decimal f ++ fourFields of ++ ascii "\n"
 
 -- "for each spawn [..] S, number, verdict word [..], the four sizes"
 unfoldable pub spawnLine : ℕ → (ℕ → ℕ) → ℕ → List ℕ
-spawnLine verdict of n = (83 ∷ space ∷ []) ++ decimal n ++ (space ∷ []) ++ verdictWord verdict ++ fourFields of ++ lineFeed
+spawnLine verdict of n = ascii "S " ++ decimal n ++ ascii " " ++ verdictWord verdict ++ fourFields of ++ ascii "\n"
 
 -- the texts of 0 to n - 1, one after another: "records count from 0"
 unfoldable pub joined : (ℕ → List ℕ) → ℕ → List ℕ
@@ -96,10 +76,10 @@ listing g choice sizes = joined (ofFunctionText g sizes) (g .functions) ++ joine
 
 -- "A refusal prints `refused N at P`."
 unfoldable pub refusalLine : ℕ → ℕ → List ℕ
-refusalLine number place = refusedWord ++ decimal number ++ atWord ++ decimal place ++ lineFeed
+refusalLine number place = ascii "refused " ++ decimal number ++ ascii " at " ++ decimal place ++ ascii "\n"
 
 -- The text of a table. "at most 12,800 bytes; for a longer input it prints only `too long`". "It prints the best choice": the choice returned, and its sizes.
 pub data ListingOf : List ℕ → List ℕ → Type 0 where
-  too-long : {t text : List ℕ} → 12800 < length t → text ≡ tooLong → ListingOf t text
+  too-long : {t text : List ℕ} → 12800 < length t → text ≡ ascii "too long\n" → ListingOf t text
   refused : {t text : List ℕ} → length t ≤ 12800 → (number place : ℕ) → outcome t ≡ isRefused number place → text ≡ refusalLine number place → ListingOf t text
   accepted : {t text : List ℕ} → length t ≤ 12800 → Accepted t → (choice sizes : ℕ → ℕ) → Returned (programOf t) choice → LeastSizes (programOf t) choice sizes → text ≡ listing (programOf t) choice sizes → ListingOf t text
