@@ -1,9 +1,7 @@
 // What the best-choice call is refused for.
 use sizes::Answer;
-use sizes::Known;
 use sizes::admit::Admitted;
-use sync::synchronising;
-use table::Checked;
+use sizes::admit::look;
 use table::Counts;
 ghost use mathlib.Core.Path.{_≡_};
 ghost use Rattle.table.specs.Answer.{Ready};
@@ -32,30 +30,14 @@ pub fn admit(t: &[u8], verdicts: usize, buffer: usize) -> Admitted
     ensures { λ r. ⌜ resultOf (r .answer) ≡ bestResult (bestCall (now (t .entry)) verdicts buffer) ⌝ }
     ensures { λ r. ⌜ AdmittedFor (now (t .entry)) (r .answer) (r .known) ⌝ }
 {
-    let found = synchronising(t);
-    let checked = found.checked;
-    let set = found.synchronising;
-    let reached = found.reached;
-    match checked {
-        Checked::Accepted(of) => Admitted {
-            answer: judge(of, t, verdicts, buffer),
-            known: Known {
-                of,
-                synchronising: set,
-                reached,
-            },
+    let seen = look(t);
+    let known = seen.known;
+    let answer = seen.answer;
+    match answer {
+        Answer::Done => Admitted {
+            answer: judge(known.of, t, verdicts, buffer),
+            known,
         },
-        Checked::Refused(number, place) => Admitted {
-            answer: Answer::Refused(number, place),
-            known: Known {
-                of: Counts {
-                    functions: 0,
-                    nodes: 0,
-                    edges: 0,
-                },
-                synchronising: set,
-                reached,
-            },
-        },
+        Answer::Refused(_, _) => seen,
     }
 }

@@ -1,8 +1,8 @@
 -- The checks of a call with a choice and a sizes buffer, one after another.
 use Prim.Native.Nat.{ℕ, _<_, _≤_}
-use mathlib.Core.Path.{_≡_, refl, sym, ap, _∙_, subst}
+use mathlib.Core.Path.{_≡_, refl, sym, ap, _∙_}
 use mathlib.Core.Bool.{Bool, true, false, true≢false, not, cond, _&&_, _||_}
-use mathlib.Core.List.{List, _++_, map, List·Memᴰ·head, List·Memᴰ·tail}
+use mathlib.Core.List.{List, [], _∷_, _++_, map, List·Memᴰ, List·Memᴰ·head, List·Memᴰ·tail}
 use mathlib.Core.Option.{Option, none, some, Option·some-ne-none}
 use native.Mathlib.Omega.{arith}
 use lib.Dec.{eqb, leb}
@@ -21,7 +21,7 @@ use Rattle.table.proofs.Below.{first-some, first-none, earliest-passed}
 use Rattle.table.proofs.Refusals.{refusal-pass, refusal-here, refusal-none, not-applied, refusal-over-none, refusal-over-some}
 use Rattle.sizes.specs.Choice.{unmerged, unguarded, ChoiceFor}
 use Rattle.sizes.specs.Rules.{entries}
-use Rattle.sizes.specs.Call.{Call, choiceOf, wrongLength, outside, tooShort, sizesRow, choiceChecks, callChecks, Result, done, refused, resultFor, result, resultOf}
+use Rattle.sizes.specs.Call.{Call, choiceOf, wrongLength, outside, tooShort, sizesRow, choiceChecks, callChecks, Result, done, refused, resultFor, tableResult, result, resultOf}
 use Rattle.sizes.specs.Known.{AdmittedFor}
 use Rattle.sizes.specs.declared.Answer.{Answer}
 use Rattle.sizes.specs.declared.Answer.the-variants.{Done, Refused}
@@ -50,70 +50,81 @@ module _ {X : Type 0} (cs : List (Check X)) (x : X) where
       go none q = q
       go (some r) q = absurd (true≢false (ap isDone (e ∙ ap resultFor q)))
 
--- where those on the table come first, it is accepted if none applies
-pub table-accepted : {X : Type 0} (table : X → List ℕ) (cs : List (Check X)) (x : X) → refusal (map (over table) checks ++ cs) x ≡ none → Accepted (table x)
-table-accepted table cs x e = go (refusal checks (table x)) refl
-  where
-    go : (o : Option Refusal) → refusal checks (table x) ≡ o → refusal checks (table x) ≡ none
-    go none q = q
-    go (some r) q = absurd (Option·some-ne-none r (sym (refusal-over-some table cs x checks q) ∙ e))
+-- where those on the table come first: the first of them that applies decides, and the table is accepted if none of all does
+module _ {X : Type 0} (table : X → List ℕ) (cs : List (Check X)) (x : X) where
+  pub table-refused : {n p : ℕ} → refused n p ≡ tableResult (table x) → refused n p ≡ resultFor (refusal (map (over table) checks ++ cs) x)
+  unfolding tableResult resultFor
+  table-refused {n} {p} e = go (refusal checks (table x)) refl
+    where
+      go : (o : Option Refusal) → refusal checks (table x) ≡ o → refused n p ≡ resultFor (refusal (map (over table) checks ++ cs) x)
+      go none q = absurd (true≢false (sym (ap isDone (e ∙ ap resultFor q))))
+      go (some r) q = e ∙ ap resultFor (q ∙ sym (refusal-over-some table cs x checks q))
+
+  pub table-accepted : refusal (map (over table) checks ++ cs) x ≡ none → Accepted (table x)
+  table-accepted e = go (refusal checks (table x)) refl
+    where
+      go : (o : Option Refusal) → refusal checks (table x) ≡ o → refusal checks (table x) ≡ none
+      go none q = q
+      go (some r) q = absurd (Option·some-ne-none r (sym (refusal-over-some table cs x checks q) ∙ e))
+
+-- the row of the sizes buffer: what it says where it is the last one left, and what it sees to
+module _ {X : Type 0} (table : X → List ℕ) (buffer : X → ℕ) (x : X) where
+  module _ (needed : ℕ) (e : needed ≡ entries (programOf (table x))) where
+    pub sizes-short : buffer x < needed → refusal (sizesRow table buffer ∷ []) x ≡ some (refusedAt 11 needed)
+    unfolding tooShort
+    sizes-short b =
+        let s : buffer x < entries (programOf (table x)) = omega arith in
+        refusal-here x (sizesRow table buffer) [] (rw (lt-ltb (buffer x) (entries (programOf (table x))) s, e) refl)
+
+    pub sizes-long : needed ≤ buffer x → refusal (sizesRow table buffer ∷ []) x ≡ none
+    unfolding tooShort refusal
+    sizes-long b =
+        let s : entries (programOf (table x)) ≤ buffer x = omega arith in
+        refusal-pass x (sizesRow table buffer) [] (rw (le-ltb (buffer x) (entries (programOf (table x))) s) refl)
+
+  pub sizes-fit : (cs : List (Check X)) → List·Memᴰ (sizesRow table buffer) cs → refusal cs x ≡ none → entries (programOf (table x)) ≤ buffer x
+  unfolding tooShort
+  sizes-fit cs m e = ltb-false _ _ (not-applied (tooShort (table x) (buffer x)) (entries (programOf (table x))) (refusal-none x cs e (sizesRow table buffer) m))
+
+-- what is known of a table that is accepted is known whatever else the call is refused for
+pub still-known : (t : List ℕ) (answer : Answer) (known : Known) → AdmittedFor t Done known → AdmittedFor t answer known
+still-known t Done known k = k
+still-known t (Refused n p) known k = tt
 
 -- ---- the checks of a call with a choice
 
-module _ (x : Call) where
-  -- a check on the table decides first
-  pub table-refused : (n p : ℕ) → refusal checks (x .table) ≡ some (refusedAt n p) → refused n p ≡ result x
-  unfolding result callChecks
-  table-refused n p e = told-refused callChecks x n p (refusal-over-some (λ (y : Call). y .table) choiceChecks x checks e)
-
-  past-table : Accepted (x .table) → refusal callChecks x ≡ refusal choiceChecks x
+module _ (x : Call) (a : Accepted (x .table)) where
+  past-table : refusal callChecks x ≡ refusal choiceChecks x
   unfolding callChecks
-  past-table a = refusal-over-none (λ (y : Call). y .table) choiceChecks x checks a
+  past-table = refusal-over-none (λ (y : Call). y .table) choiceChecks x checks a
 
-  nothing-left : refusal (drop 3 choiceChecks) x ≡ none
-  unfolding choiceChecks refusal
-  nothing-left = refl
+  pub length-refused : (nodes : ℕ) → nodes ≡ programOf (x .table) .nodes → (length (x .choice) ≡ nodes → ⊥) → refused 9 nodes ≡ result x
+  unfolding result choiceChecks wrongLength
+  length-refused nodes e h =
+      told-refused callChecks x 9 nodes
+      (past-table ∙ refusal-here x _ _ (rw (ne-eqb (length (x .choice)) (programOf (x .table) .nodes) (λ q. h (q ∙ sym e)), e) refl))
 
-  module _ (a : Accepted (x .table)) where
-    pub length-refused : (nodes : ℕ) → nodes ≡ programOf (x .table) .nodes → (length (x .choice) ≡ nodes → ⊥) → refused 9 nodes ≡ result x
-    unfolding result choiceChecks wrongLength
-    length-refused nodes e h =
-        told-refused callChecks x 9 nodes
-        (past-table a ∙ refusal-here x _ _ (rw (ne-eqb (length (x .choice)) (programOf (x .table) .nodes) (λ q. h (q ∙ sym e)), e) refl))
+  past-length : length (x .choice) ≡ programOf (x .table) .nodes → refusal callChecks x ≡ refusal (drop 1 choiceChecks) x
+  unfolding choiceChecks wrongLength
+  past-length h = past-table ∙ refusal-pass x _ _ (rw (eq-eqb (length (x .choice)) (programOf (x .table) .nodes) h) refl)
 
-    past-length : length (x .choice) ≡ programOf (x .table) .nodes → refusal callChecks x ≡ refusal (drop 1 choiceChecks) x
-    unfolding choiceChecks wrongLength
-    past-length h = past-table a ∙ refusal-pass x _ _ (rw (eq-eqb (length (x .choice)) (programOf (x .table) .nodes) h) refl)
+  module _ (h : length (x .choice) ≡ programOf (x .table) .nodes) (n : ℕ) (f : First (outside (x .table) (x .choice)) (programOf (x .table) .nodes) n) where
+    pub byte-refused : n < programOf (x .table) .nodes → refused 9 n ≡ result x
+    unfolding result choiceChecks
+    byte-refused l = told-refused callChecks x 9 n (past-length h ∙ refusal-here x _ _ (first-some _ _ n f l))
 
-    module _ (h : length (x .choice) ≡ programOf (x .table) .nodes) (n : ℕ) (f : First (outside (x .table) (x .choice)) (programOf (x .table) .nodes) n) where
-      pub byte-refused : n < programOf (x .table) .nodes → refused 9 n ≡ result x
+    past-bytes : programOf (x .table) .nodes ≤ n → refusal callChecks x ≡ refusal (drop 2 choiceChecks) x
+    unfolding choiceChecks
+    past-bytes l = past-length h ∙ refusal-pass x _ _ (first-none _ _ n f l)
+
+    module _ (l : programOf (x .table) .nodes ≤ n) (needed : ℕ) (e : needed ≡ entries (programOf (x .table))) where
+      pub buffer-refused : x .buffer < needed → refused 11 needed ≡ result x
       unfolding result choiceChecks
-      byte-refused l = told-refused callChecks x 9 n (past-length h ∙ refusal-here x _ _ (first-some _ _ n f l))
+      buffer-refused b = told-refused callChecks x 11 needed (past-bytes l ∙ sizes-short _ _ x needed e b)
 
-      past-bytes : programOf (x .table) .nodes ≤ n → refusal callChecks x ≡ refusal (drop 2 choiceChecks) x
-      unfolding choiceChecks
-      past-bytes l = past-length h ∙ refusal-pass x _ _ (first-none _ _ n f l)
-
-      module _ (l : programOf (x .table) .nodes ≤ n) (needed : ℕ) (e : needed ≡ entries (programOf (x .table))) where
-        pub buffer-refused : x .buffer < needed → refused 11 needed ≡ result x
-        unfolding result choiceChecks tooShort
-        buffer-refused b =
-            let s : x .buffer < entries (programOf (x .table)) = omega arith in
-            told-refused callChecks x 11 needed (past-bytes l ∙ refusal-here x _ _ (rw (lt-ltb (x .buffer) (entries (programOf (x .table))) s, e) refl))
-
-        past-buffer : needed ≤ x .buffer → refusal callChecks x ≡ refusal (drop 3 choiceChecks) x
-        unfolding choiceChecks tooShort
-        past-buffer b =
-            let s : entries (programOf (x .table)) ≤ x .buffer = omega arith in
-            past-bytes l ∙ refusal-pass x _ _ (rw (le-ltb (x .buffer) (entries (programOf (x .table))) s) refl)
-
-        pub nothing-refused : needed ≤ x .buffer → done ≡ result x
-        unfolding result
-        nothing-refused b = told-done callChecks x (past-buffer b ∙ nothing-left)
-
-pub admitted : (t : List ℕ) (answer : Answer) (known : Known) → Ready t (known .of) → Sets (programOf t) (known .synchronising) (known .reached) → AdmittedFor t answer known
-admitted t Done known r s = (r, s)
-admitted t (Refused n p) known r s = tt
+      pub nothing-refused : needed ≤ x .buffer → done ≡ result x
+      unfolding result choiceChecks
+      nothing-refused b = told-done callChecks x (past-bytes l ∙ sizes-long _ _ x needed e b)
 
 -- ---- a call that is not refused
 
@@ -126,25 +137,18 @@ pub record Valid (x : Call) : Type 0 where
   pub choice-for : ChoiceFor (programOf (x .table)) (choiceOf (x .choice))
   pub fits : entries (programOf (x .table)) ≤ x .buffer
 
-module _ (x : Call) where
-  module _ (e : refusal choiceChecks x ≡ none) where
-    length-right : length (x .choice) ≡ programOf (x .table) .nodes
-    unfolding choiceChecks wrongLength
-    length-right =
-        eqb-true _ _
-        (not-false _ (not-applied (wrongLength x) (programOf (x .table) .nodes) (refusal-none x choiceChecks e (record { number = 9; place = λ y. cond (wrongLength y) (some (programOf (y .table) .nodes)) none }) (search in-list depth 40))))
+module _ (x : Call) (e : refusal choiceChecks x ≡ none) where
+  length-right : length (x .choice) ≡ programOf (x .table) .nodes
+  unfolding choiceChecks wrongLength
+  length-right =
+      eqb-true _ _
+      (not-false _ (not-applied (wrongLength x) (programOf (x .table) .nodes) (refusal-none x choiceChecks e (record { number = 9; place = λ y. cond (wrongLength y) (some (programOf (y .table) .nodes)) none }) (search in-list depth 40))))
 
-    none-outside : (n : ℕ) → n < programOf (x .table) .nodes → outside (x .table) (x .choice) n ≡ false
-    unfolding choiceChecks
-    none-outside =
-        earliest-passed (outside (x .table) (x .choice)) (programOf (x .table) .nodes)
-        (refusal-none x choiceChecks e (record { number = 9; place = λ y. earliest (outside (y .table) (y .choice)) (programOf (y .table) .nodes) }) (search in-list depth 40))
-
-    buffer-fits : entries (programOf (x .table)) ≤ x .buffer
-    unfolding choiceChecks tooShort
-    buffer-fits =
-        ltb-false _ _
-        (not-applied (tooShort (x .table) (x .buffer)) (entries (programOf (x .table))) (refusal-none x choiceChecks e (sizesRow (λ (y : Call). y .table) (λ (y : Call). y .buffer)) (search in-list depth 40)))
+  none-outside : (n : ℕ) → n < programOf (x .table) .nodes → outside (x .table) (x .choice) n ≡ false
+  unfolding choiceChecks
+  none-outside =
+      earliest-passed (outside (x .table) (x .choice)) (programOf (x .table) .nodes)
+      (refusal-none x choiceChecks e (record { number = 9; place = λ y. earliest (outside (y .table) (y .choice)) (programOf (y .table) .nodes) }) (search in-list depth 40))
 
 -- a byte that is not outside its list
 byte-listed : (t choice : List ℕ) (n : ℕ) → outside t choice n ≡ false → ((eqb (programOf t .sort n) spawn && leb unmerged (choiceOf choice n) && leb (choiceOf choice n) unguarded) || (not (eqb (programOf t .sort n) spawn) && eqb (choiceOf choice n) 0)) ≡ true
@@ -174,7 +178,7 @@ module _ (t choice : List ℕ) (n : ℕ) (e : outside t choice n ≡ false) wher
       other-side true b c d q h = absurd (true≢false q)
 
 pub done-valid : (x : Call) → done ≡ result x → Valid x
-unfolding result callChecks
+unfolding result callChecks choiceChecks
 done-valid x e =
     let n = none-refused callChecks x e in
     let a = table-accepted (λ (y : Call). y .table) choiceChecks x n in
@@ -186,7 +190,7 @@ done-valid x e =
         others = λ m h s. other-byte (x .table) (x .choice) m (none-outside x c m h) s;
         spawns = λ m h s. spawn-byte (x .table) (x .choice) m (none-outside x c m h) s;
       };
-      fits = buffer-fits x c;
+      fits = sizes-fit (λ (y : Call). y .table) (λ (y : Call). y .buffer) x choiceChecks (search in-list depth 40) c;
     }
 
 -- what an admitted call has: nothing is refused, and its table is known
@@ -198,6 +202,6 @@ pub record Admission (x : Call) (known : Known) : Type 0 where
 
 pub admission : (x : Call) (answer : Answer) (known : Known) → answer ≡ Done → resultOf answer ≡ result x → AdmittedFor (x .table) answer known → Admission x known
 admission x answer known e r a =
-    let d = sym (ap resultOf e) ∙ r in
-    let k = subst (λ (b : Answer). AdmittedFor (x .table) b known) e a in
+    let d : done ≡ result x = rw e at r in
+    let k : AdmittedFor (x .table) Done known = rw e at a in
     record { done-is = d; valid = done-valid x d; ready = k .0; sets = k .1 }

@@ -67,6 +67,10 @@ unfoldable pub resultFor : Option Refusal → Result
 resultFor none = done
 resultFor (some r) = refused (r .number) (r .place)
 
+-- by the checks on its table alone, and by all of them
+unfoldable pub tableResult : List ℕ → Result
+tableResult t = resultFor (refusal checks t)
+
 unfoldable pub result : Call → Result
 result x = resultFor (refusal callChecks x)
 

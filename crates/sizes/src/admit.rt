@@ -8,10 +8,9 @@ use table::Counts;
 use table::program;
 ghost use mathlib.Core.Path.{_≡_};
 ghost use Prim.Native.Nat.{_<_};
-ghost use lib.ListN.{length};
 ghost use Rattle.table.specs.Scan.{First};
 ghost use Rattle.table.specs.Answer.{Ready};
-ghost use Rattle.sizes.specs.Call.{outside, result, resultOf};
+ghost use Rattle.sizes.specs.Call.{outside, result, resultOf, tableResult};
 ghost use Rattle.sizes.specs.Known.{call, AdmittedFor};
 
 // Whether the byte of node n is outside its list: 1 to 3 of a spawn, and 0 of any other node.
@@ -65,9 +64,9 @@ pub struct Admitted {
     pub known: Known,
 }
 
-// Judges a call with a sizes buffer of so many numbers.
-pub fn admit(t: &[u8], choice: &[u8], buffer: usize) -> Admitted
-    ensures { λ r. ⌜ resultOf (r .answer) ≡ result (call (now (t .entry)) (now (choice .entry)) buffer) ⌝ }
+// Looks at a table: its refusal, if there is one, and what is known of it.
+pub fn look(t: &[u8]) -> Admitted
+    ensures { λ r. ⌜ resultOf (r .answer) ≡ tableResult (now (t .entry)) ⌝ }
     ensures { λ r. ⌜ AdmittedFor (now (t .entry)) (r .answer) (r .known) ⌝ }
 {
     let found = synchronising(t);
@@ -76,7 +75,7 @@ pub fn admit(t: &[u8], choice: &[u8], buffer: usize) -> Admitted
     let reached = found.reached;
     match checked {
         Checked::Accepted(of) => Admitted {
-            answer: judge(t, of, choice, buffer),
+            answer: Answer::Done,
             known: Known {
                 of,
                 synchronising: set,
@@ -95,5 +94,22 @@ pub fn admit(t: &[u8], choice: &[u8], buffer: usize) -> Admitted
                 reached,
             },
         },
+    }
+}
+
+// Judges a call with a sizes buffer of so many numbers.
+pub fn admit(t: &[u8], choice: &[u8], buffer: usize) -> Admitted
+    ensures { λ r. ⌜ resultOf (r .answer) ≡ result (call (now (t .entry)) (now (choice .entry)) buffer) ⌝ }
+    ensures { λ r. ⌜ AdmittedFor (now (t .entry)) (r .answer) (r .known) ⌝ }
+{
+    let seen = look(t);
+    let known = seen.known;
+    let answer = seen.answer;
+    match answer {
+        Answer::Done => Admitted {
+            answer: judge(t, known.of, choice, buffer),
+            known,
+        },
+        Answer::Refused(_, _) => seen,
     }
 }
