@@ -2,34 +2,32 @@
 use Prim.Native.Nat.{ℕ}
 use mathlib.Core.Path.{_≡_, refl}
 use mathlib.Core.List.{List}
-use mathlib.Core.Bool.{true, false, not, _&&_}
+use mathlib.Core.Bool.{Bool, true, false, not, _&&_}
 use lib.Dec.{eqb}
 use borrow.Author.Tests.{eqb-true, eq-eqb, not-true, not-false}
 use Rattle.table.specs.Record.{call, edgeFrom, edgeTo}
 use Rattle.table.specs.Program.{programOf}
 use Rattle.table.proofs.Booleans.{and-true-left, and-true-right, and-false-right}
 use Rattle.sync.specs.Words.{member}
-use Rattle.sync.specs.Search.{leadsOn, callOf}
+use Rattle.sync.specs.Search.{leadsOn, blockedCall}
+
+all-three : (a b c : Bool) → (a && b && c) ≡ true → (a ≡ true) × (b ≡ true) × (c ≡ true)
+all-three a b c h =
+    let ab = and-true-left (a && b) c h in
+    (and-true-left a b ab, and-true-right a b ab, and-true-right (a && b) c h)
 
 module _ (t avoid words : List ℕ) (e : ℕ) (h : leadsOn t avoid words e ≡ true) where
+  leads : (member words (edgeFrom t e) ≡ true) × (not (member avoid (edgeTo t e)) ≡ true) × (not (member words (edgeTo t e)) ≡ true)
+  leads = all-three _ _ _ h
+
   pub leads-from : member words (edgeFrom t e) ≡ true
-  leads-from = and-true-left (member words (edgeFrom t e)) _ (and-true-left (member words (edgeFrom t e) && not (member avoid (edgeTo t e))) _ h)
+  leads-from = leads .0
 
   pub leads-clear : member avoid (edgeTo t e) ≡ false
-  leads-clear = not-true _ (and-true-right (member words (edgeFrom t e)) _ (and-true-left (member words (edgeFrom t e) && not (member avoid (edgeTo t e))) _ h))
+  leads-clear = not-true _ (leads .1)
 
   pub leads-fresh : member words (edgeTo t e) ≡ false
-  leads-fresh = not-true _ (and-true-right (member words (edgeFrom t e) && not (member avoid (edgeTo t e))) _ h)
-
-module _ (t : List ℕ) (f : ℕ) (words : List ℕ) (n : ℕ) (h : callOf t f words n ≡ true) where
-  pub call-sort : programOf t .sort n ≡ call
-  call-sort = eqb-true _ _ (and-true-left (eqb (programOf t .sort n) call) _ (and-true-left (eqb (programOf t .sort n) call && eqb (programOf t .target n) f) _ h))
-
-  pub call-target : programOf t .target n ≡ f
-  call-target = eqb-true _ _ (and-true-right (eqb (programOf t .sort n) call) _ (and-true-left (eqb (programOf t .sort n) call && eqb (programOf t .target n) f) _ h))
-
-  pub call-fresh : member words n ≡ false
-  call-fresh = not-true _ (and-true-right (eqb (programOf t .sort n) call && eqb (programOf t .target n) f) _ h)
+  leads-fresh = not-true _ (leads .2)
 
 -- an edge that leads nowhere new
 pub leads-nowhere : (t avoid words : List ℕ) (e : ℕ) → leadsOn t avoid words e ≡ false → member words (edgeFrom t e) ≡ true → member avoid (edgeTo t e) ≡ false → member words (edgeTo t e) ≡ true
@@ -38,9 +36,22 @@ leads-nowhere t avoid words e h from clear =
     (and-false-right (member words (edgeFrom t e) && not (member avoid (edgeTo t e))) (not (member words (edgeTo t e))) h
     (rw (from, clear) refl))
 
--- and a node that is no call of f outside the set
-pub call-nowhere : (t : List ℕ) (f : ℕ) (words : List ℕ) (n : ℕ) → callOf t f words n ≡ false → programOf t .sort n ≡ call → programOf t .target n ≡ f → member words n ≡ true
-call-nowhere t f words n h s e =
+module _ (t reached words : List ℕ) (n : ℕ) (h : blockedCall t reached words n ≡ true) where
+  blocked : (eqb (programOf t .sort n) call ≡ true) × (not (member reached (programOf t .exit (programOf t .target n))) ≡ true) × (not (member words n) ≡ true)
+  blocked = all-three _ _ _ h
+
+  pub call-sort : programOf t .sort n ≡ call
+  call-sort = eqb-true _ _ (blocked .0)
+
+  pub call-target : member reached (programOf t .exit (programOf t .target n)) ≡ false
+  call-target = not-true _ (blocked .1)
+
+  pub call-fresh : member words n ≡ false
+  call-fresh = not-true _ (blocked .2)
+
+-- and a blocked call that is not outside the set
+pub call-nowhere : (t reached words : List ℕ) (n : ℕ) → blockedCall t reached words n ≡ false → programOf t .sort n ≡ call → member reached (programOf t .exit (programOf t .target n)) ≡ false → member words n ≡ true
+call-nowhere t reached words n h s b =
     not-false _
-    (and-false-right (eqb (programOf t .sort n) call && eqb (programOf t .target n) f) (not (member words n)) h
-    (rw (eq-eqb _ _ s, eq-eqb _ _ e) refl))
+    (and-false-right (eqb (programOf t .sort n) call && not (member reached (programOf t .exit (programOf t .target n)))) (not (member words n)) h
+    (rw (eq-eqb _ _ s, b) refl))

@@ -8,5 +8,4 @@ mod Sweeps
 mod Leads
 mod Reaching
 mod Settling
-mod Looking
 mod Same

@@ -1,4 +1,4 @@
--- Looking at functions until each is settled gives the smallest set.
+-- Adding the calls of functions that let no path through, until there are no more, gives the smallest set.
 use Prim.Native.Nat.{ℕ, _<_, _≤_}
 use mathlib.Core.Path.{_≡_, refl, sym, ap, _∙_, subst}
 use mathlib.Core.List.{List}
@@ -18,9 +18,9 @@ use Rattle.sync.specs.Paths.{Path, On, Holds, Clear}
 use Rattle.sync.specs.Synchronising.{Closed}
 use Rattle.sync.specs.Words.{member}
 use Rattle.sync.specs.Answer.{Sets}
-use Rattle.sync.specs.Search.{From, Collected, Firsts, Stands, Settled, Grown, callOf}
+use Rattle.sync.specs.Search.{From, Collected, Firsts, Stands, Grown, blockedCall}
 use Rattle.sync.proofs.Sweeps.{grown-keeps, grown-all}
-use Rattle.sync.proofs.Leads.{call-sort, call-target}
+use Rattle.sync.proofs.Leads.{call-sort, call-target, call-nowhere}
 use Rattle.sync.proofs.Paths.{clear-or-holds, clear-holds-none, path-owner, path-exists}
 
 module _ (t from : List ℕ) (ok : Accepted t) (firsts : Firsts t from) where
@@ -87,24 +87,24 @@ module _ (t from : List ℕ) (ok : Accepted t) (firsts : Firsts t from) where
         (clear-or-holds (programOf t) (member set) p)
 
     -- so its calls are in every closed set
-    blocked-below : (f : ℕ) → member reached (programOf t .exit f) ≡ false → (other : ℕ → Bool) → Closed (programOf t) other → (n : ℕ) → n < programOf t .nodes → programOf t .sort n ≡ call → programOf t .target n ≡ f → other n ≡ true
-    blocked-below f b other k n h c e =
+    blocked-below : (other : ℕ → Bool) → Closed (programOf t) other → (n : ℕ) → n < programOf t .nodes → programOf t .sort n ≡ call → member reached (programOf t .exit (programOf t .target n)) ≡ false → other n ≡ true
+    blocked-below other k n h c b =
         k .calls n c (λ p.
-        let x = blocked-holds (programOf t .target n) (w .target-exists n h) (ap (λ (m : ℕ). member reached (programOf t .exit m)) e ∙ b) p in
+        let x = blocked-holds (programOf t .target n) (w .target-exists n h) b p in
         (x .0, x .1, s .below other k (x .0) (x .2)))
 
-    -- with the calls of such a function, and what they let through, the work stands again
-    pub stands-more : (f : ℕ) → member reached (programOf t .exit f) ≡ false → (total : ℕ) → total ≤ programOf t .nodes → (set′ reached′ : List ℕ) → Grown (callOf t f) (λ n. n) total set set′ → ((n : ℕ) → (member reached′ n ≡ true) ↔ From (programOf t) (member set′) (member from) n) → Stands t from set′ reached′
-    stands-more f b total l set′ reached′ grown exact = record {
+    -- with such calls, and what they let through, the work stands again
+    pub stands-more : (total : ℕ) → total ≤ programOf t .nodes → (set′ reached′ : List ℕ) → Grown (blockedCall t reached) (λ n. n) total set set′ → ((n : ℕ) → (member reached′ n ≡ true) ↔ From (programOf t) (member set′) (member from) n) → Stands t from set′ reached′
+    stands-more total l set′ reached′ grown exact = record {
       below = λ other k.
-          grown-all (callOf t f) (λ n. n) total set (λ n. other n ≡ true) (s .below other k)
-          (λ u n h c old. blocked-below f b other k n (omega arith) (call-sort t f u n c) (call-target t f u n c))
+          grown-all (blockedCall t reached) (λ n. n) total set (λ n. other n ≡ true) (s .below other k)
+          (λ u n h c old. blocked-below other k n (omega arith) (call-sort t reached u n c) (call-target t reached u n c))
           set′ grown;
       sorts =
-          grown-all (callOf t f) (λ n. n) total set (λ n. (n < programOf t .nodes) × ((programOf t .sort n ≡ sync) ⊎ (programOf t .sort n ≡ call))) (s .sorts)
-          (λ u n h c old. (omega arith, inr (call-sort t f u n c)))
+          grown-all (blockedCall t reached) (λ n. n) total set (λ n. (n < programOf t .nodes) × ((programOf t .sort n ≡ sync) ⊎ (programOf t .sort n ≡ call))) (s .sorts)
+          (λ u n h c old. (omega arith, inr (call-sort t reached u n c)))
           set′ grown;
-      syncs = λ n h. grown-keeps (callOf t f) (λ n. n) total set set′ grown n (s .syncs n h);
+      syncs = λ n h. grown-keeps (blockedCall t reached) (λ n. n) total set set′ grown n (s .syncs n h);
       reach = exact;
     }
 
@@ -124,8 +124,8 @@ module _ (t from : List ℕ) (ok : Accepted t) (firsts : Firsts t from) where
         let q = subst (λ (m : ℕ). (p : Path (programOf t) (programOf t .first m) (programOf t .exit f)) × Clear (member set) p) o (x .1) in
         (q .0, clear-holds-none (programOf t) (member set) (q .0) (plain-out (programOf t .first f) (w .first-own f h .plain-is)) (q .1))
 
-    -- when every function is settled the set is closed
-    settled-closed : ((f : ℕ) → f < programOf t .functions → Settled t set reached f) → Closed (programOf t) (member set)
+    -- when no such call is left the set is closed
+    settled-closed : ((n : ℕ) → n < programOf t .nodes → blockedCall t reached set n ≡ false) → Closed (programOf t) (member set)
     settled-closed done = record { syncs = s .syncs; calls = calls }
       where
         calls : (n : ℕ) → programOf t .sort n ≡ call → ((p : Path (programOf t) (programOf t .first (programOf t .target n)) (programOf t .exit (programOf t .target n))) → Holds (member set) p) → member set n ≡ true
@@ -138,10 +138,10 @@ module _ (t from : List ℕ) (ok : Accepted t) (firsts : Firsts t from) where
             let p = open-path f l r in
             let y = every (p .0) in
             not-both (member set (y .0)) (y .2) (p .1 (y .0) (y .1)))
-            (λ (b : member reached (programOf t .exit f) ≡ false). done f l b n h c refl)
+            (λ (b : member reached (programOf t .exit f) ≡ false). call-nowhere t reached set n (done n h) c b)
             (either-way (member reached (programOf t .exit f)))
 
-    pub settled-sets : ((f : ℕ) → f < programOf t .functions → Settled t set reached f) → Sets (programOf t) set reached
+    pub settled-sets : ((n : ℕ) → n < programOf t .nodes → blockedCall t reached set n ≡ false) → Sets (programOf t) set reached
     settled-sets done = record {
       set = record { closed = settled-closed done; smallest = s .below };
       exists = λ n h. s .sorts n h .0;

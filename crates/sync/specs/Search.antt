@@ -49,9 +49,9 @@ turn true k i = k - (i + 1)
 abbrev pub EdgesSwept : List ℕ → List ℕ → Bool → ℕ → ℕ → List ℕ → List ℕ → Bool → Type 0
 EdgesSwept t avoid back k = Swept (λ w i. leadsOn t avoid w (turn back k i)) (λ i. edgeTo t (turn back k i)) k
 
--- node n is a call of f that is not in the set yet
-abbrev pub callOf : List ℕ → ℕ → List ℕ → ℕ → Bool
-callOf t f words n = eqb (programOf t .sort n) call && eqb (programOf t .target n) f && not (member words n)
+-- node n is a call that is not in the set yet, of a function to whose exit no path gets through
+abbrev pub blockedCall : List ℕ → List ℕ → List ℕ → ℕ → Bool
+blockedCall t reached words n = eqb (programOf t .sort n) call && not (member reached (programOf t .exit (programOf t .target n))) && not (member words n)
 
 -- `from` keeps the first nodes of functions
 abbrev pub Firsts : List ℕ → List ℕ → Type 0
@@ -63,14 +63,3 @@ pub record Stands (t from set reached : List ℕ) : Type 0 where
   pub sorts : (n : ℕ) → member set n ≡ true → (n < programOf t .nodes) × ((programOf t .sort n ≡ sync) ⊎ (programOf t .sort n ≡ call))
   pub syncs : (n : ℕ) → programOf t .sort n ≡ sync → member set n ≡ true
   pub reach : (n : ℕ) → (member reached n ≡ true) ↔ From (programOf t) (member set) (member from) n
-
--- f lets a path through, or its calls are in the set
-abbrev pub Settled : List ℕ → List ℕ → List ℕ → ℕ → Type 0
-Settled t set reached f = member reached (programOf t .exit f) ≡ false → (n : ℕ) → n < programOf t .nodes → programOf t .sort n ≡ call → programOf t .target n ≡ f → member set n ≡ true
-
--- what a look at the functions that `seen` tells has made of a set and what it lets through
-pub record Looked (t from : List ℕ) (seen : ℕ → Type 0) (set reached set′ reached′ : List ℕ) (grew : Bool) : Type 0 where
-  pub stands : Stands t from set′ reached′
-  -- where nothing was added, each of them is settled
-  pub quiet : grew ≡ false → (set′ ≡ set) × (reached′ ≡ reached) × ((f : ℕ) → seen f → Settled t set reached f)
-  pub falls : room set′ + cond grew 1 0 ≤ room set

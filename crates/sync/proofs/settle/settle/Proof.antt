@@ -1,22 +1,20 @@
--- The invariant: the work stands, and once a pass has added nothing every function is settled.
-use Prim.Native.Nat.{ℕ, _+_, _<_}
+-- The invariant: the work stands. A pass that adds nothing has found no call that the set lacks.
 use native.Mathlib.Omega.{arith}
-use mathlib.Core.Path.{_≡_, refl}
-use mathlib.Core.Bool.{true, false, cond}
+use mathlib.Core.Path.{_≡_}
+use mathlib.Core.Bool.{true, false}
 use borrow.Author.Needs.{needs}
-use Rattle.table.proofs.Booleans.{not-both}
-use Rattle.table.proofs.Ready.{functions-are}
-use Rattle.sync.specs.Search.{Stands, Settled, room}
-use Rattle.sync.proofs.Settling.{stands-syncs, settled-sets}
-use Rattle.sync.proofs.Looking.{pass-quiet}
+use borrow.Author.Tests.{not-true, not-false}
+use Rattle.table.proofs.Ready.{nodes-are}
+use Rattle.sync.specs.Search.{Stands, room}
+use Rattle.sync.proofs.Settling.{stands-syncs, stands-more, settled-sets}
 use Rattle.sync.proofs.settle.settle.Statement.{statement}
 use Rattle.sync.proofs.settle.settle.Tie as tie
 
 abbrev Inv-loop : tie.InvT-loop
-Inv-loop t of from set₀ reached₀ grew₀ set reached grew = Stands t from set reached × (grew ≡ false → (f : ℕ) → f < of .functions → Settled t set reached f)
+Inv-loop t of from set₀ reached₀ set reached = Stands t from set reached
 
 abbrev μ-loop : tie.MeasureT-loop
-μ-loop t of from set₀ reached₀ grew₀ set reached grew = room set + cond grew 1 0
+μ-loop t of from set₀ reached₀ set reached = room set
 
 firsts-requires : tie.Need-firsts-requires Inv-loop μ-loop
 firsts-requires c κs = search needs
@@ -28,30 +26,31 @@ reach-requires : tie.Need-reach-requires Inv-loop μ-loop
 reach-requires c κs = search needs
 
 loop-holds : tie.Need-loop-holds Inv-loop μ-loop
-loop-holds c = (
-  stands-syncs _ _ (c .before .before .before .before .pre .accepted-is) (c .before .before .firsts .ensures) _ _ (c .before .syncs .ensures) (c .reach .ensures),
-  λ q. not-both true refl q,
-)
+loop-holds c = stands-syncs _ _ (c .before .before .before .before .pre .accepted-is) (c .before .before .firsts .ensures) _ _ (c .before .syncs .ensures) (c .reach .ensures)
 
-pass-requires : tie.Need-pass-requires Inv-loop μ-loop
-pass-requires c κs =
-    (c .before .before .before .before .before .before .pre, (c .before .before .before .before .firsts .ensures, c .before .loop .inv .0))
-
-loop-less : tie.Need-loop-less Inv-loop μ-loop
-loop-less c = rw (c .before .before .before .loop-test .taken) (omega (arith, c .before .before .pass .ensures .falls))
-
-loop-again : tie.Need-loop-again Inv-loop μ-loop
-loop-again c =
-    let p = c .before .before .pass .ensures in
-    (p .stands, pass-quiet _ _ _ _ _ _ _ _ p)
+with-blocked-calls-requires : tie.Need-with-blocked-calls-requires Inv-loop μ-loop
+with-blocked-calls-requires c κs = search needs
 
 returns : tie.Need-returns Inv-loop μ-loop
 returns c =
-    let a = c .before .before .before .before .before .before .args in
-    let r = c .before .before .before .before .before .before .pre in
-    let l = c .before .loop .inv in
-    settled-sets _ _ (r .accepted-is) (c .before .before .before .before .firsts .ensures) _ _ (l .0)
-    (λ f h. l .1 (c .loop-test .left) f (omega (arith, functions-are (a .t .now) (a .of) r)))
+    let s = c .before .before .before .before .before .before .before .before in
+    let none = c .before .before .with-blocked-calls .ensures .quiet (not-true _ (c .if1 .taken)) .1 in
+    settled-sets _ _ (s .pre .accepted-is) (c .before .before .before .before .before .before .firsts .ensures) _ _ (c .before .before .before .loop .inv)
+    (λ n h. none n (omega (arith, nodes-are (s .args .t .now) (s .args .of) (s .pre))))
+
+reach-requires-2 : tie.Need-reach-requires-2 Inv-loop μ-loop
+reach-requires-2 c κs = search needs
+
+loop-less : tie.Need-loop-less Inv-loop μ-loop
+loop-less c =
+    let p = c .before .before .before .before .with-blocked-calls in
+    omega (arith, rw (not-false (p .result .grew) (c .before .before .if1 .left)) at (p .ensures .falls))
+
+loop-again : tie.Need-loop-again Inv-loop μ-loop
+loop-again c =
+    let s = c .before .before .before .before .before .before .before .before .before .before in
+    stands-more _ _ (s .pre .accepted-is) (c .before .before .before .before .before .before .before .before .firsts .ensures) _ _ (c .before .before .before .before .before .loop .inv)
+    _ (omega (arith, nodes-are (s .args .t .now) (s .args .of) (s .pre))) _ _ (c .before .before .before .before .with-blocked-calls .ensures .grown) (c .reach2 .ensures)
 
 pub settle-spec : {M : Type 1} → statement M
 settle-spec =
@@ -63,7 +62,8 @@ settle-spec =
     syncs-requires
     reach-requires
     loop-holds
-    pass-requires
+    with-blocked-calls-requires
+    returns
+    reach-requires-2
     loop-less
-    loop-again
-    returns)
+    loop-again)
