@@ -11,7 +11,7 @@ use Rattle.table.proofs.Booleans.{and-true-left, and-true-right, and-false-righ
 use Rattle.sync.specs.Words.{member}
 use Rattle.sync.specs.Search.{leadsOn, blockedCall}
 
-all-three : (a b c : Bool) → (a && b && c) ≡ true → (a ≡ true) × (b ≡ true) × (c ≡ true)
+pub all-three : (a b c : Bool) → (a && b && c) ≡ true → (a ≡ true) × (b ≡ true) × (c ≡ true)
 all-three a b c h =
     let ab = and-true-left (a && b) c h in
     (and-true-left a b ab, and-true-right a b ab, and-true-right (a && b) c h)

@@ -6,6 +6,7 @@ pub mod Members
 mod Collected
 mod Sweeps
 mod Leads
+mod Orders
 mod Reaching
 mod Settling
 mod Same

@@ -5,6 +5,7 @@ use mathlib.Core.List.{List}
 use mathlib.Core.Bool.{Bool, true, false}
 use mathlib.Core.Logic.{_↔_}
 use native.Mathlib.Omega.{arith}
+use lib.ListN.{getD}
 use Rattle.table.specs.Record.{edges, edgeFrom, edgeTo}
 use Rattle.table.specs.Answer.{Ready}
 use Rattle.table.specs.Program.{programOf}
@@ -14,17 +15,10 @@ use Rattle.table.proofs.Laws.{edge-which}
 use Rattle.table.proofs.Ready.{edge-is}
 use Rattle.sync.specs.Paths.{Path, stop, step, Clear}
 use Rattle.sync.specs.Words.{member}
-use Rattle.sync.specs.Search.{From, EdgesSwept, leadsOn, turn}
+use Rattle.sync.specs.Order.{Ordered}
+use Rattle.sync.specs.Search.{From, EdgesSwept, leadsOn}
 use Rattle.sync.proofs.Sweeps.{grown-keeps, grown-all}
 use Rattle.sync.proofs.Leads.{leads-from, leads-clear, leads-nowhere}
-
-turn-below : (back : Bool) (k i : ℕ) → i < k → turn back k i < k
-turn-below true k i h = omega arith
-turn-below false k i h = h
-
-turn-back : (back : Bool) (k i : ℕ) → i < k → turn back k (turn back k i) ≡ i
-turn-back true k i h = omega arith
-turn-back false k i h = refl
 
 -- where the search stands
 pub record Reaching (t avoid from words : List ℕ) (grew : Bool) : Type 0 where
@@ -40,30 +34,30 @@ module _ (t : List ℕ) (c : Counts) (r : Ready t c) (avoid from : List ℕ) whe
     done = λ q. not-both true refl q;
   }
 
-  pub reaching-more : (back : Bool) (w v : List ℕ) (grew : Bool) → Reaching t avoid from w true → EdgesSwept t avoid back (c .edges) (c .edges) w v grew → Reaching t avoid from v grew
-  reaching-more back w v grew p s = record {
+  pub reaching-more : (order : List ℕ) → Ordered (c .edges) order → (w v : List ℕ) (grew : Bool) → Reaching t avoid from w true → EdgesSwept t order avoid (c .edges) (c .edges) w v grew → Reaching t avoid from v grew
+  reaching-more order o w v grew p s = record {
     sound =
-        grown-all (leads back) (item back) (c .edges) w
+        grown-all leads item (c .edges) w
         (From (programOf t) (member avoid) (member from))
         (p .sound)
         (λ u i l h old.
-        let e = turn back (c .edges) i in
-        let o = old (edgeFrom t e) (leads-from t avoid u e h) in
-        (o .0, o .1, (step (o .2 .0) (edge-is t c r e (turn-below back (c .edges) i l)), (o .2 .1, leads-clear t avoid u e h))))
+        let e = getD order i 0 in
+        let x = old (edgeFrom t e) (leads-from t avoid u e h) in
+        (x .0, x .1, (step (x .2 .0) (edge-is t c r e (o .within i l)), (x .2 .1, leads-clear t avoid u e h))))
         v
         (s .grown);
-    keeps = λ n h. grown-keeps (leads back) (item back) (c .edges) w v (s .grown) n (p .keeps n h);
+    keeps = λ n h. grown-keeps leads item (c .edges) w v (s .grown) n (p .keeps n h);
     done = λ q e h.
         let k = s .quiet q in
-        let l : e < c .edges = omega (arith, r .counts-are .edges-are) in
-        subst₂ (λ (x : List ℕ) (y : ℕ). leadsOn t avoid x y ≡ false) (sym (k .0)) (turn-back back (c .edges) e l) (k .1 (turn back (c .edges) e) (turn-below back (c .edges) e l));
+        let x = o .all e (omega (arith, r .counts-are .edges-are)) in
+        subst₂ (λ (x : List ℕ) (y : ℕ). leadsOn t avoid x y ≡ false) (sym (k .0)) (x .2) (k .1 (x .0) (x .1));
   }
     where
-      leads : Bool → List ℕ → ℕ → Bool
-      leads back w i = leadsOn t avoid w (turn back (c .edges) i)
+      leads : List ℕ → ℕ → Bool
+      leads w i = leadsOn t avoid w (getD order i 0)
 
-      item : Bool → ℕ → ℕ
-      item back i = edgeTo t (turn back (c .edges) i)
+      item : ℕ → ℕ
+      item i = edgeTo t (getD order i 0)
 
   pub reaching-all : (w : List ℕ) → Reaching t avoid from w false → {a n : ℕ} (p : Path (programOf t) a n) → member from a ≡ true → Clear (member avoid) p → member w n ≡ true
   reaching-all w q stop h k = q .keeps _ h

@@ -1,10 +1,11 @@
 -- For the contracts of the search. Helps proofs only: no public promise rests on it.
-use Prim.Native.Nat.{ℕ, _+_, _-_, _<_, _≤_}
+use Prim.Native.Nat.{ℕ, _+_, _<_, _≤_}
 use mathlib.Core.Path.{_≡_}
 use mathlib.Core.List.{List}
 use mathlib.Core.Bool.{Bool, true, false, cond, not, _&&_, _||_}
 use mathlib.Core.Logic.{_⊎_, _↔_}
 use lib.Dec.{eqb}
+use lib.ListN.{getD}
 use Rattle.table.specs.Below.{any, count}
 use Rattle.table.specs.Record.{sync, call, edgeFrom, edgeTo}
 use Rattle.table.specs.Program.{Program, programOf}
@@ -40,14 +41,9 @@ pub record Swept (lets : List ℕ → ℕ → Bool) (item : ℕ → ℕ) (total 
 abbrev pub leadsOn : List ℕ → List ℕ → List ℕ → ℕ → Bool
 leadsOn t avoid words e = member words (edgeFrom t e) && not (member avoid (edgeTo t e)) && not (member words (edgeTo t e))
 
--- the i-th of k items, counted from the last where `back`
-abbrev pub turn : Bool → ℕ → ℕ → ℕ
-turn false k i = i
-turn true k i = k - (i + 1)
-
--- a sweep over k edges, in their order or back
-abbrev pub EdgesSwept : List ℕ → List ℕ → Bool → ℕ → ℕ → List ℕ → List ℕ → Bool → Type 0
-EdgesSwept t avoid back k = Swept (λ w i. leadsOn t avoid w (turn back k i)) (λ i. edgeTo t (turn back k i)) k
+-- a sweep over k edges in an order
+abbrev pub EdgesSwept : List ℕ → List ℕ → List ℕ → ℕ → ℕ → List ℕ → List ℕ → Bool → Type 0
+EdgesSwept t order avoid k = Swept (λ w i. leadsOn t avoid w (getD order i 0)) (λ i. edgeTo t (getD order i 0)) k
 
 -- node n is a call that is not in the set yet, of a function to whose exit no path gets through
 abbrev pub blockedCall : List ℕ → List ℕ → List ℕ → ℕ → Bool

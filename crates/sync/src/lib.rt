@@ -1,5 +1,6 @@
 // The synchronising nodes of a task table. Document 01, "Synchronising nodes".
 mod collect;
+pub mod order;
 mod search;
 mod settle;
 pub mod words;

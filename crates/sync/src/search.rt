@@ -1,4 +1,5 @@
 // Searches along edges.
+use crate::order::get;
 use crate::words::has;
 use crate::words::with;
 use table::Counts;
@@ -11,7 +12,8 @@ ghost use Prim.Native.Nat.{ℕ, _<_};
 ghost use Rattle.table.specs.Answer.{Ready};
 ghost use Rattle.table.specs.Program.{programOf};
 ghost use Rattle.sync.specs.Words.{member};
-ghost use Rattle.sync.specs.Search.{From, EdgesSwept, leadsOn, turn};
+ghost use Rattle.sync.specs.Order.{Ordered};
+ghost use Rattle.sync.specs.Search.{From, EdgesSwept, leadsOn};
 
 // A set, and whether a sweep has added to it.
 pub(crate) struct Growth {
@@ -29,25 +31,17 @@ fn leads_on(t: &[u8], of: Counts, avoid: [u64; 8], set: [u64; 8], e: usize) -> b
     has(set, a) & !has(avoid, b) & !has(set, b)
 }
 
-// The i-th of k, counted from the last where back.
-fn turned(back: bool, k: usize, i: usize) -> usize
-    requires { ⌜ i < k ⌝ }
-    ensures { λ r. ⌜ (r ≡ turn back k i) × (r < k) ⌝ }
-{
-    if back { k - (i + 1) } else { i }
-}
-
-// One sweep over the edges, in their order or back.
-fn sweep(t: &[u8], of: Counts, avoid: [u64; 8], from: [u64; 8], back: bool) -> Growth
-    requires { ⌜ Ready (now t) of ⌝ }
-    ensures { λ r. ⌜ EdgesSwept (now (t .entry)) avoid back (of .edges) (of .edges) from (r .set) (r .grew) ⌝ }
+// One sweep over the edges, in the order given.
+fn sweep(t: &[u8], of: Counts, order: &[u16], avoid: [u64; 8], from: [u64; 8]) -> Growth
+    requires { ⌜ Ready (now t) of × Ordered (of .edges) (now order) ⌝ }
+    ensures { λ r. ⌜ EdgesSwept (now (t .entry)) (now (order .entry)) avoid (of .edges) (of .edges) from (r .set) (r .grew) ⌝ }
 {
     let edges = of.edges;
     let mut set = from;
     let mut grew = false;
     let mut i: usize = 0;
     while i < edges {
-        let e = turned(back, edges, i);
+        let e = get(order, i);
         i += 1;
         if leads_on(t, of, avoid, set, e) {
             let next = with(set, edge_to(t, of, e));
@@ -58,21 +52,25 @@ fn sweep(t: &[u8], of: Counts, avoid: [u64; 8], from: [u64; 8], back: bool) -> G
     Growth { set, grew }
 }
 
-// The nodes that are reached from a set by paths none of whose nodes after the first is to be avoided. Sweeps go to and fro,
-// so that edges in a line take few of them whichever way they are listed.
-pub(crate) fn reach(t: &[u8], of: Counts, avoid: [u64; 8], from: [u64; 8]) -> [u64; 8]
-    requires { ⌜ Ready (now t) of ⌝ }
+// The nodes that are reached from a set by paths none of whose nodes after the first is to be avoided. In the order of a
+// search in depth most paths take one sweep.
+pub(crate) fn reach(
+    t: &[u8],
+    of: Counts,
+    order: &[u16],
+    avoid: [u64; 8],
+    from: [u64; 8],
+) -> [u64; 8]
+    requires { ⌜ Ready (now t) of × Ordered (of .edges) (now order) ⌝ }
     ensures { λ r. ⌜ ((n : ℕ) → (member r n ≡ true) ↔ From (programOf (now (t .entry))) (member avoid) (member from) n) ⌝ }
 {
     let mut set = from;
     let mut grew = true;
-    let mut back = false;
     while grew {
-        let swept = sweep(t, of, avoid, set, back);
+        let swept = sweep(t, of, order, avoid, set);
         let next = swept.set;
         set = next;
         grew = swept.grew;
-        back = !back;
     }
     set
 }

@@ -1,6 +1,7 @@
 // The synchronising calls: calls of functions that let no path through are added until there are no more.
 use crate::collect::firsts;
 use crate::collect::syncs;
+use crate::order::order_edges;
 use crate::search::Growth;
 use crate::search::reach;
 use crate::words::has;
@@ -57,16 +58,18 @@ pub(crate) fn settle(t: &[u8], of: Counts) -> State
     requires { ⌜ Ready (now t) of ⌝ }
     ensures { λ r. ⌜ Sets (programOf (now (t .entry))) (r .set) (r .reached) ⌝ }
 {
+    let mut order = [0u16; 1024];
+    order_edges(t, of, &mut order);
     let from = firsts(t, of);
     let mut set = syncs(t, of);
-    let mut reached = reach(t, of, set, from);
+    let mut reached = reach(t, of, &order, set, from);
     loop {
         let calls = with_blocked_calls(t, of, reached, set);
         if !calls.grew {
             return State { set, reached };
         }
         let more = calls.set;
-        let through = reach(t, of, more, from);
+        let through = reach(t, of, &order, more, from);
         set = more;
         reached = through;
     }

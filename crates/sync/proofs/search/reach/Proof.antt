@@ -9,13 +9,13 @@ use Rattle.sync.proofs.search.reach.Statement.{statement}
 use Rattle.sync.proofs.search.reach.Tie as tie
 
 abbrev Inv-loop : tie.InvT-loop
-Inv-loop t of avoid set₀ grew₀ back₀ set grew back = Reaching t avoid set₀ set grew
+Inv-loop t of order avoid set₀ grew₀ set grew = Reaching t avoid set₀ set grew
 
 abbrev μ-loop : tie.MeasureT-loop
-μ-loop t of avoid set₀ grew₀ back₀ set grew back = room set + cond grew 1 0
+μ-loop t of order avoid set₀ grew₀ set grew = room set + cond grew 1 0
 
 loop-holds : tie.Need-loop-holds Inv-loop μ-loop
-loop-holds c = reaching-none _ _ (c .before .pre) _ _
+loop-holds c = reaching-none _ _ (c .before .before .pre .0) _ _
 
 sweep-requires : tie.Need-sweep-requires Inv-loop μ-loop
 sweep-requires c κs = search needs
@@ -24,10 +24,12 @@ loop-less : tie.Need-loop-less Inv-loop μ-loop
 loop-less c = rw (c .before .before .loop-test .taken) (omega (arith, c .before .sweep .ensures .falls))
 
 loop-again : tie.Need-loop-again Inv-loop μ-loop
-loop-again c = reaching-more _ _ (c .before .before .before .before .before .pre) _ _ (c .before .before .before .loop .back) _ _ _ (rw (c .before .before .loop-test .taken) at (c .before .before .before .loop .inv)) (c .before .sweep .ensures)
+loop-again c =
+    let p = c .before .before .before .before .before .before .pre in
+    reaching-more _ _ (p .0) _ _ _ (p .1) _ _ _ (rw (c .before .before .loop-test .taken) at (c .before .before .before .loop .inv)) (c .before .sweep .ensures)
 
 returns : tie.Need-returns Inv-loop μ-loop
-returns c = reaching-exact _ _ (c .before .before .before .pre) _ _ _ (rw (c .loop-test .left) at (c .before .loop .inv))
+returns c = reaching-exact _ _ (c .before .before .before .before .pre .0) _ _ _ (rw (c .loop-test .left) at (c .before .loop .inv))
 
 pub reach-spec : {M : Type 1} → statement M
 reach-spec =
