@@ -43,13 +43,13 @@ module _ (t reached words : List ℕ) (n : ℕ) (h : blockedCall t reached words
   pub call-sort : programOf t .sort n ≡ call
   call-sort = eqb-true _ _ (blocked .0)
 
-  pub call-target : member reached (programOf t .exit (programOf t .target n)) ≡ false
-  call-target = not-true _ (blocked .1)
+  pub call-blocked : member reached (programOf t .exit (programOf t .target n)) ≡ false
+  call-blocked = not-true _ (blocked .1)
 
   pub call-fresh : member words n ≡ false
   call-fresh = not-true _ (blocked .2)
 
--- and a blocked call that is not outside the set
+-- a blocked call that is not to be added
 pub call-nowhere : (t reached words : List ℕ) (n : ℕ) → blockedCall t reached words n ≡ false → programOf t .sort n ≡ call → member reached (programOf t .exit (programOf t .target n)) ≡ false → member words n ≡ true
 call-nowhere t reached words n h s b =
     not-false _

@@ -50,7 +50,7 @@ module _ (t : List ℕ) (c : Counts) (r : Ready t c) (avoid from : List ℕ) whe
     done = λ q e h.
         let k = s .quiet q in
         let x = o .all e (omega (arith, r .counts-are .edges-are)) in
-        subst₂ (λ (x : List ℕ) (y : ℕ). leadsOn t avoid x y ≡ false) (sym (k .0)) (x .2) (k .1 (x .0) (x .1));
+        subst₂ (λ (u : List ℕ) (y : ℕ). leadsOn t avoid u y ≡ false) (sym (k .0)) (x .2) (k .1 (x .0) (x .1));
   }
     where
       leads : List ℕ → ℕ → Bool

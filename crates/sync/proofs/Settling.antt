@@ -20,7 +20,7 @@ use Rattle.sync.specs.Words.{member}
 use Rattle.sync.specs.Answer.{Sets}
 use Rattle.sync.specs.Search.{From, Collected, Firsts, Stands, Grown, blockedCall}
 use Rattle.sync.proofs.Sweeps.{grown-keeps, grown-all}
-use Rattle.sync.proofs.Leads.{call-sort, call-target, call-nowhere}
+use Rattle.sync.proofs.Leads.{call-sort, call-blocked, call-nowhere}
 use Rattle.sync.proofs.Paths.{clear-or-holds, clear-holds-none, path-owner, path-exists}
 
 module _ (t from : List ℕ) (ok : Accepted t) (firsts : Firsts t from) where
@@ -98,7 +98,7 @@ module _ (t from : List ℕ) (ok : Accepted t) (firsts : Firsts t from) where
     stands-more total l set′ reached′ grown exact = record {
       below = λ other k.
           grown-all (blockedCall t reached) (λ n. n) total set (λ n. other n ≡ true) (s .below other k)
-          (λ u n h c old. blocked-below other k n (omega arith) (call-sort t reached u n c) (call-target t reached u n c))
+          (λ u n h c old. blocked-below other k n (omega arith) (call-sort t reached u n c) (call-blocked t reached u n c))
           set′ grown;
       sorts =
           grown-all (blockedCall t reached) (λ n. n) total set (λ n. (n < programOf t .nodes) × ((programOf t .sort n ≡ sync) ⊎ (programOf t .sort n ≡ call))) (s .sorts)
