@@ -10,7 +10,7 @@ use borrow.Author.Tests.{eqb-true}
 use Rattle.table.proofs.Booleans.{either-way, not-both, and-true-left, and-true-right, or-true-right}
 use Rattle.sizes.specs.System.{Entry, size, along}
 use Rattle.sizes.specs.Causes.{offset, at}
-use Rattle.sizes.specs.Passes.{Values, sums, valueAt, putSizes, putSums}
+use Rattle.sizes.specs.Values.{Values, sums, valueAt, putSizes, putSums}
 use Rattle.sizes.specs.declared.sums.Sum.{Sum}
 use Rattle.sizes.specs.declared.sums.Sum.the-variants.{After, Before, Through}
 use Rattle.sizes.proofs.Rises.{In, here, there}

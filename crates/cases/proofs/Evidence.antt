@@ -11,7 +11,7 @@ use Rattle.table.proofs.Booleans.{not-both, and-true-left, and-true-right}
 use Rattle.sizes.specs.Answer.{SizesOf}
 use Rattle.sizes.specs.Causes.{at}
 use Rattle.sizes.specs.Choice.{guarded, unguarded}
-use Rattle.sizes.specs.Passes.{Values}
+use Rattle.sizes.specs.Values.{Values}
 use Rattle.sizes.specs.Rules.{LeastSizes}
 use Rattle.safety.specs.Safety.{Safe}
 use Rattle.choice.specs.Beats.{Returned}

@@ -14,7 +14,7 @@ use Rattle.sync.specs.Synchronising.{Synchronising}
 use Rattle.size.specs.Size.{unbounded}
 use Rattle.sizes.specs.Answer.{SizesOf}
 use Rattle.sizes.specs.Causes.{at}
-use Rattle.sizes.specs.Passes.{Values}
+use Rattle.sizes.specs.Values.{Values}
 use Rattle.safety.specs.Safety.{Safe}
 use Rattle.safety.specs.Test.{PostsBelow, EdgesBounded, Tells}
 use Rattle.safety.proofs.Judging.{tells-safe}

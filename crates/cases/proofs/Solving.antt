@@ -16,7 +16,7 @@ use Rattle.sync.specs.Synchronising.{Synchronising, Reached}
 use Rattle.size.specs.Size.{unbounded}
 use Rattle.sizes.specs.System.{Entry, size, along, Form, takes, taken, formOf, gives, none, rule, Solved}
 use Rattle.sizes.specs.Causes.{Given, RuleOf, DerOf, Lead, at}
-use Rattle.sizes.specs.Passes.{Values, valueAt}
+use Rattle.sizes.specs.Values.{Values, valueAt}
 use Rattle.sizes.specs.Answer.{SizesOf}
 use Rattle.sizes.specs.declared.sums.Sum.the-variants.{After, Before, Through}
 use Rattle.sizes.proofs.Maps.{at-zeros}

@@ -8,9 +8,8 @@ pub mod Solved
 -- How the promises come about.
 mod Ahead
 mod Taking
-mod Passes
-mod Along
-mod Raising
-mod Rounds
-mod Closing
 mod Derived
+mod Numbers
+mod Turns
+mod Listing
+mod Closing

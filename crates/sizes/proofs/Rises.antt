@@ -23,18 +23,18 @@ pub entry-size : (x : ℕ) → x < 2304 → entryAt x ≡ size x
 unfolding entryAt
 entry-size x h = rw (lt-ltb x 2304 h) refl
 
-entry-through : (x : ℕ) → 3328 ≤ x → entryAt x ≡ along Through (x - 3328)
+pub entry-through : (x : ℕ) → 3328 ≤ x → entryAt x ≡ along Through (x - 3328)
 unfolding entryAt
 entry-through x h =
     let a : 2304 ≤ x = omega arith in
     let b : 2816 ≤ x = omega arith in
     rw (le-ltb x 2304 a, le-ltb x 2816 b, le-ltb x 3328 h) refl
 
-entry-before : (x : ℕ) → 2816 ≤ x → x < 3328 → entryAt x ≡ along Before (x - 2816)
+pub entry-before : (x : ℕ) → 2816 ≤ x → x < 3328 → entryAt x ≡ along Before (x - 2816)
 unfolding entryAt
 entry-before x h i = let a : 2304 ≤ x = omega arith in rw (le-ltb x 2304 a, le-ltb x 2816 h, lt-ltb x 3328 i) refl
 
-entry-after : (x : ℕ) → 2304 ≤ x → x < 2816 → entryAt x ≡ along After (x - 2304)
+pub entry-after : (x : ℕ) → 2304 ≤ x → x < 2816 → entryAt x ≡ along After (x - 2304)
 unfolding entryAt
 entry-after x h i = rw (le-ltb x 2304 h, lt-ltb x 2816 i) refl
 

@@ -7,5 +7,6 @@ pub mod Call
 -- What only helps proofs.
 pub mod System
 pub mod Causes
-pub mod Passes
+pub mod Listed
+pub mod Values
 pub mod Known

@@ -1,10 +1,9 @@
 -- The rules as a finite system: sums along open paths are kept for each node, and each rule adds at most two entries up. Helps proofs only.
-use Prim.Native.Nat.{ℕ, _+_, _-_, _*_, _<_, _≤_}
+use Prim.Native.Nat.{ℕ, _+_, _*_, _<_, _≤_}
 use mathlib.Core.Path.{_≡_}
 use mathlib.Core.List.{List, [], _∷_}
 use mathlib.Core.Bool.{Bool, true, cond, not, _&&_, _||_}
-use lib.Dec.{eqb, leb, ltb}
-use lib.ListN.{getD}
+use lib.Dec.{eqb, leb}
 use Rattle.table.specs.Record.{call, spawn}
 use Rattle.table.specs.Program.{Program}
 use Rattle.size.specs.Size.{cap}
@@ -58,16 +57,6 @@ abbrev pub steps : (ℕ → Bool) → (ℕ → Bool) → Sum → ℕ → ℕ →
 steps set reached After p n = not (set n)
 steps set reached Before p n = not (set p)
 steps set reached Through p n = not (set n) && reached p
-
--- (edges are gone over in ascending order for sums that run with them, and in descending order for those against: edge i of k)
-abbrev pub turn : Sum → ℕ → ℕ → ℕ
-turn After k i = i
-turn Before k i = k - (i + 1)
-turn Through k i = i
-
--- (where an order is given, edge i of it; an order is a hint, and what it does not say stays in place)
-unfoldable pub pick : List ℕ → ℕ → ℕ → ℕ
-pick order k i = cond (ltb (getD order i k) k) (getD order i k) i
 
 -- and at one node of function f it is done, if it gets there; the frame may be due besides.
 abbrev pub ending : Program → Sum → ℕ → ℕ

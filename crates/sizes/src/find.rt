@@ -1,10 +1,7 @@
-// The least sizes of a choice: passes over all rules, until one raises nothing.
+// The least sizes of a choice.
 use crate::Known;
-use crate::order::order_edges;
-use crate::sums::Sum;
-use crate::sums::raise_sums;
-use crate::targets::targets;
-use crate::totals::raise_functions;
+use crate::list::list_rules;
+use crate::solve::solve;
 use size::Size;
 ghost use mathlib.Core.Path.{_≡_};
 ghost use mathlib.Core.List.{map};
@@ -29,25 +26,6 @@ pub fn zero_sizes() -> [Size; 2304]
     [Size::ZERO; 2304]
 }
 
-fn zero_sums() -> [Size; 512]
-    ensures { λ r. ⌜ map valueOf r ≡ replicate 512 0 ⌝ }
-{
-    [Size::ZERO; 512]
-}
-
-// Writes the sums of nodes as numbers.
-fn write_sums(sums: [Size; 512], out: &mut [u32])
-    requires { ⌜ 512 ≤ length (now out) ⌝ }
-    ensures { λ _. ⌜ Written 512 (at (map valueOf sums)) (now (out .entry)) (now (out .exit)) ⌝ }
-{
-    let mut i: usize = 0;
-    while i < 512 {
-        let sum = sums[i];
-        out[i] = sum.number();
-        i += 1;
-    }
-}
-
 // Writes the first sizes as numbers.
 pub fn write_sizes(sizes: [Size; 2304], count: usize, out: &mut [u32])
     requires { ⌜ (count ≤ 2304) × (count ≤ length (now out)) ⌝ }
@@ -58,87 +36,6 @@ pub fn write_sizes(sizes: [Size; 2304], count: usize, out: &mut [u32])
         let size = sizes[i];
         out[i] = size.number();
         i += 1;
-    }
-}
-
-// Raises the sizes, and the sums from zero, until a pass raises nothing. What is there at the start has no causes.
-fn solve(
-    t: &[u8],
-    choice: &[u8],
-    known: Known,
-    from: [Size; 2304],
-    order: &[u16],
-    causes: &mut [u16],
-    stamps: &mut [u32],
-    afters: &mut [u32],
-    befores: &mut [u32],
-    passes: &mut u32,
-) -> [Size; 2304]
-    requires { ⌜ Ready (now t) (known .of) × Sets (programOf (now t)) (known .synchronising) (known .reached) ⌝ }
-    requires { ⌜ Derived (programOf (now t)) (member (known .synchronising)) (member (known .reached)) (at (now choice)) (at (map valueOf from)) ⌝ }
-    requires { ⌜ (now causes ≡ replicate 3840 65535) × (length (now stamps) ≡ 3841) ⌝ }
-    requires { ⌜ (512 ≤ length (now afters)) × (512 ≤ length (now befores)) ⌝ }
-    ensures { λ r. ⌜ SizesOf (programOf (now (t .entry))) (member (known .synchronising)) (at (now (choice .entry))) (at (map valueOf r)) (at (now (afters .exit))) (at (now (befores .exit))) ⌝ }
-    ensures { λ r. ⌜ Derived (programOf (now (t .entry))) (member (known .synchronising)) (member (known .reached)) (at (now (choice .entry))) (at (map valueOf r)) ⌝ }
-{
-    let mut sizes = from;
-    let mut after = zero_sums();
-    let mut before = zero_sums();
-    let mut through = zero_sums();
-    let mut clock: u32 = 0;
-    let mut count: u32 = 0;
-    loop {
-        let started = clock;
-        stamps[3840] = started;
-        count += 1;
-        let taken = targets(t, choice, known, sizes, causes, stamps, &mut clock);
-        let a = raise_sums(
-            t,
-            choice,
-            known,
-            order,
-            Sum::After,
-            taken,
-            after,
-            causes,
-            stamps,
-            &mut clock,
-        );
-        let b = raise_sums(
-            t,
-            choice,
-            known,
-            order,
-            Sum::Before,
-            taken,
-            before,
-            causes,
-            stamps,
-            &mut clock,
-        );
-        let c = raise_sums(
-            t,
-            choice,
-            known,
-            order,
-            Sum::Through,
-            taken,
-            through,
-            causes,
-            stamps,
-            &mut clock,
-        );
-        let raised = raise_functions(t, choice, known, a, b, c, taken, causes, stamps, &mut clock);
-        after = a;
-        before = b;
-        through = c;
-        sizes = raised;
-        if clock == started {
-            write_sums(after, afters);
-            write_sums(before, befores);
-            *passes = count;
-            return sizes;
-        }
     }
 }
 
@@ -160,16 +57,14 @@ pub fn find_from(
     ensures { λ r. ⌜ SizesOf (programOf (now (t .entry))) (member (known .synchronising)) (at (now (choice .entry))) (at (map valueOf r)) (at (now (after .exit))) (at (now (before .exit))) ⌝ }
     ensures { λ r. ⌜ Derived (programOf (now (t .entry))) (member (known .synchronising)) (member (known .reached)) (at (now (choice .entry))) (at (map valueOf r)) ⌝ }
 {
+    let mut rules = [0u64; 8384];
+    let count = list_rules(t, choice, known, &mut rules);
     let mut causes = [65535u16; 3840];
     let mut stamps = [0u32; 3841];
-    let mut order = [0u16; 1024];
-    order_edges(t, known.of, &mut order);
     solve(
-        t,
-        choice,
-        known,
+        &rules,
+        count,
         from,
-        &order,
         &mut causes,
         &mut stamps,
         after,

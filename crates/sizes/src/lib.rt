@@ -2,10 +2,11 @@
 pub mod admit;
 mod causes;
 pub mod find;
-mod order;
+mod list;
+mod rules;
+mod solve;
 pub mod sums;
 mod targets;
-mod totals;
 
 use admit::admit;
 use find::put;

@@ -7,14 +7,9 @@ use lib.Dec.{eqb}
 use borrow.Author.Tests.{eqb-true, eq-eqb, not-true, not-false}
 use Rattle.table.specs.Record.{call, edgeFrom, edgeTo}
 use Rattle.table.specs.Program.{programOf}
-use Rattle.table.proofs.Booleans.{and-true-left, and-true-right, and-false-right}
+use Rattle.table.proofs.Booleans.{all-three, and-false-right}
 use Rattle.sync.specs.Words.{member}
 use Rattle.sync.specs.Search.{leadsOn, blockedCall}
-
-pub all-three : (a b c : Bool) → (a && b && c) ≡ true → (a ≡ true) × (b ≡ true) × (c ≡ true)
-all-three a b c h =
-    let ab = and-true-left (a && b) c h in
-    (and-true-left a b ab, and-true-right a b ab, and-true-right (a && b) c h)
 
 module _ (t avoid words : List ℕ) (e : ℕ) (h : leadsOn t avoid words e ≡ true) where
   leads : (member words (edgeFrom t e) ≡ true) × (not (member avoid (edgeTo t e)) ≡ true) × (not (member words (edgeTo t e)) ≡ true)

@@ -6,7 +6,6 @@ pub mod Members
 mod Collected
 mod Sweeps
 mod Leads
-mod Orders
 mod Reaching
 mod Settling
 mod Same

@@ -15,7 +15,7 @@ use Rattle.table.proofs.Laws.{edge-which}
 use Rattle.table.proofs.Ready.{edge-is}
 use Rattle.sync.specs.Paths.{Path, stop, step, Clear}
 use Rattle.sync.specs.Words.{member}
-use Rattle.sync.specs.Order.{Ordered}
+use Rattle.order.specs.Order.{Ordered}
 use Rattle.sync.specs.Search.{From, EdgesSwept, leadsOn}
 use Rattle.sync.proofs.Sweeps.{grown-keeps, grown-all}
 use Rattle.sync.proofs.Leads.{leads-from, leads-clear, leads-nowhere}

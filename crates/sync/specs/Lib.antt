@@ -4,5 +4,4 @@ pub mod Synchronising
 pub mod Words
 pub mod Answer
 -- What only helps proofs.
-pub mod Order
 pub mod Search

@@ -1,6 +1,5 @@
 // The synchronising nodes of a task table. Document 01, "Synchronising nodes".
 mod collect;
-pub mod order;
 mod search;
 mod settle;
 pub mod words;

@@ -1,7 +1,7 @@
 // Searches along edges.
-use crate::order::get;
 use crate::words::has;
 use crate::words::with;
+use order::sure::get;
 use table::Counts;
 use table::program::edge_from;
 use table::program::edge_to;
@@ -12,7 +12,7 @@ ghost use Prim.Native.Nat.{ℕ, _<_};
 ghost use Rattle.table.specs.Answer.{Ready};
 ghost use Rattle.table.specs.Program.{programOf};
 ghost use Rattle.sync.specs.Words.{member};
-ghost use Rattle.sync.specs.Order.{Ordered};
+ghost use Rattle.order.specs.Order.{Ordered};
 ghost use Rattle.sync.specs.Search.{From, EdgesSwept, leadsOn};
 
 // A set, and whether a sweep has added to it.

@@ -1,11 +1,11 @@
 // The synchronising calls: calls of functions that let no path through are added until there are no more.
 use crate::collect::firsts;
 use crate::collect::syncs;
-use crate::order::order_edges;
 use crate::search::Growth;
 use crate::search::reach;
 use crate::words::has;
 use crate::words::with;
+use order::edges::order_edges;
 use table::Counts;
 use table::program;
 ghost use mathlib.Core.Path.{_≡_};

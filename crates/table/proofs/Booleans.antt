@@ -61,3 +61,8 @@ pub same-test : (a b : Bool) → (a ≡ true → b ≡ true) → (b ≡ true →
 same-test true b f g = sym (f refl)
 same-test false true f g = g refl
 same-test false false f g = refl
+
+pub all-three : (a b c : Bool) → (a && b && c) ≡ true → (a ≡ true) × (b ≡ true) × (c ≡ true)
+all-three a b c h =
+    let ab = and-true-left (a && b) c h in
+    (and-true-left a b ab, and-true-right a b ab, and-true-right (a && b) c h)

@@ -1,0 +1,91 @@
+-- The invariant: the slices keep their lengths.
+use mathlib.Core.Path.{_≡_}
+use lib.ListN.{length}
+use borrow.Author.Needs.{needs}
+use Rattle.order.proofs.edges.search.Statement.{statement}
+use Rattle.order.proofs.edges.search.Tie as tie
+
+abbrev Inv-loop : tie.InvT-loop
+Inv-loop t of heads₀ nexts n end order₀ place₀ depth₀ heads order place depth = (length heads ≡ length heads₀) × (length order ≡ length order₀)
+
+abbrev μ-loop : tie.MeasureT-loop
+μ-loop t of heads₀ nexts n end order₀ place₀ depth₀ heads order place depth = place
+
+descend-requires : tie.Need-descend-requires Inv-loop μ-loop
+descend-requires c κs = search needs
+
+loop-holds : tie.Need-loop-holds Inv-loop μ-loop
+loop-holds c = search needs
+
+same-length : tie.Need-same-length Inv-loop μ-loop
+same-length c = search needs
+
+same-length-2 : tie.Need-same-length-2 Inv-loop μ-loop
+same-length-2 c = search needs
+
+returns : tie.Need-returns Inv-loop μ-loop
+returns c = search needs
+
+sub-depth : tie.Need-sub-depth Inv-loop μ-loop
+sub-depth c = search needs
+
+sub-place : tie.Need-sub-place Inv-loop μ-loop
+sub-place c = search needs
+
+get-requires : tie.Need-get-requires Inv-loop μ-loop
+get-requires c κs = search needs
+
+put-requires : tie.Need-put-requires Inv-loop μ-loop
+put-requires c κs = search needs
+
+edge-from-requires : tie.Need-edge-from-requires Inv-loop μ-loop
+edge-from-requires c κs = search needs
+
+descend-requires-2 : tie.Need-descend-requires-2 Inv-loop μ-loop
+descend-requires-2 c κs = search needs
+
+loop-less : tie.Need-loop-less Inv-loop μ-loop
+loop-less c = search needs
+
+loop-again : tie.Need-loop-again Inv-loop μ-loop
+loop-again c = search needs
+
+loop-less-2 : tie.Need-loop-less-2 Inv-loop μ-loop
+loop-less-2 c = search needs
+
+loop-again-2 : tie.Need-loop-again-2 Inv-loop μ-loop
+loop-again-2 c = search needs
+
+same-length-3 : tie.Need-same-length-3 Inv-loop μ-loop
+same-length-3 c = search needs
+
+same-length-4 : tie.Need-same-length-4 Inv-loop μ-loop
+same-length-4 c = search needs
+
+returns-2 : tie.Need-returns-2 Inv-loop μ-loop
+returns-2 c = search needs
+
+pub search-spec : {M : Type 1} → statement M
+search-spec =
+    tie.close
+    (tie.spec
+    Inv-loop
+    μ-loop
+    descend-requires
+    loop-holds
+    same-length
+    same-length-2
+    returns
+    sub-depth
+    sub-place
+    get-requires
+    put-requires
+    edge-from-requires
+    descend-requires-2
+    loop-less
+    loop-again
+    loop-less-2
+    loop-again-2
+    same-length-3
+    same-length-4
+    returns-2)
