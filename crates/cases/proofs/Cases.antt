@@ -7,8 +7,8 @@ use Rattle.table.specs.Below.{earliest, any, count}
 use Rattle.table.specs.Refusal.{refusal}
 use Rattle.table.specs.Record.{kindOf, sortOf, fieldA, fieldB, fieldC, functions, nodes, edges}
 use Rattle.table.specs.Checks.{checks, broken, unlisted, outOfOrder, tooMany, noEntry, absent, foreign, notPlain}
-use Rattle.sizes.specs.Choice.{unguarded}
-use Rattle.sizes.specs.declared.sums.Sum.the-variants.{After, Before, Through}
+use Rattle.rules.specs.Choice.{unguarded}
+use Rattle.rules.specs.declared.sums.Sum.the-variants.{After, Before, Through}
 use Rattle.text.specs.Listing.{digits, decimal, sizeText, sizeField, fourFields, verdictWord, functionLine, spawnLine, joined, listing}
 use Rattle.cases.specs.Cases.{cases, CasesHold}
 use Rattle.cases.proofs.Rows.{row, rowsOf}

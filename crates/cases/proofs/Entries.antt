@@ -8,12 +8,12 @@ use lib.Dec.{eqb}
 use lib.ListN.{set}
 use borrow.Author.Tests.{eqb-true}
 use Rattle.table.proofs.Booleans.{either-way, not-both, and-true-left, and-true-right, or-true-right}
-use Rattle.sizes.specs.System.{Entry, size, along}
-use Rattle.sizes.specs.Causes.{offset, at}
+use Rattle.rules.specs.System.{Entry, size, along}
+use Rattle.rules.specs.Causes.{offset, at}
 use Rattle.sizes.specs.Values.{Values, sums, valueAt, putSizes, putSums}
-use Rattle.sizes.specs.declared.sums.Sum.{Sum}
-use Rattle.sizes.specs.declared.sums.Sum.the-variants.{After, Before, Through}
-use Rattle.sizes.proofs.Rises.{In, here, there}
+use Rattle.rules.specs.declared.sums.Sum.{Sum}
+use Rattle.rules.specs.declared.sums.Sum.the-variants.{After, Before, Through}
+use Rattle.rules.proofs.Rises.{In, here, there}
 
 -- what is given of each sum is there for any
 abbrev pub each : (P : Sum → Type 0) → P After → P Before → P Through → (s : Sum) → P s

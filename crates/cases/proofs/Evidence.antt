@@ -9,10 +9,10 @@ use borrow.Author.Tests.{lt-ltb, not-true}
 use Rattle.table.specs.WellFormed.{WellFormed}
 use Rattle.table.proofs.Booleans.{not-both, and-true-left, and-true-right}
 use Rattle.sizes.specs.Answer.{SizesOf}
-use Rattle.sizes.specs.Causes.{at}
-use Rattle.sizes.specs.Choice.{guarded, unguarded}
+use Rattle.rules.specs.Causes.{at}
+use Rattle.rules.specs.Choice.{guarded, unguarded}
 use Rattle.sizes.specs.Values.{Values}
-use Rattle.sizes.specs.Rules.{LeastSizes}
+use Rattle.rules.specs.Rules.{LeastSizes}
 use Rattle.safety.specs.Safety.{Safe}
 use Rattle.choice.specs.Beats.{Returned}
 use Rattle.cases.proofs.Rows.{Rows, programFrom}

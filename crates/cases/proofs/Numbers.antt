@@ -9,10 +9,10 @@ use lib.ListN.{getD}
 use borrow.Author.Tests.{eqb-true, eq-eqb}
 use Rattle.table.proofs.Below.{any-some, any-which}
 use Rattle.table.proofs.Booleans.{and-true-left, and-true-right}
-use Rattle.sizes.specs.System.{Form, starts, steps, ends, takes, startForm, stepForm, endForm, totalNodeForm, totalEdgeForm, targetForm, formOf, start, step-on, end, total-node, total-edge, target-of}
-use Rattle.sizes.specs.Causes.{Given, RuleOf, at}
-use Rattle.sizes.specs.declared.sums.Sum.{Sum}
-use Rattle.sizes.specs.declared.sums.Sum.the-variants.{After, Before, Through}
+use Rattle.rules.specs.System.{Form, starts, steps, ends, takes, startForm, stepForm, endForm, totalNodeForm, totalEdgeForm, targetForm, formOf, start, step-on, end, total-node, total-edge, target-of}
+use Rattle.rules.specs.Causes.{Given, RuleOf, at}
+use Rattle.rules.specs.declared.sums.Sum.{Sum}
+use Rattle.rules.specs.declared.sums.Sum.the-variants.{After, Before, Through}
 use Rattle.cases.proofs.Rows.{Rows, leads, programFrom}
 use Rattle.cases.proofs.Entries.{each}
 

@@ -13,7 +13,7 @@ use Rattle.table.specs.Below.{any}
 use Rattle.table.specs.Record.{sortOf, fieldA, fieldB, fieldC, functions, nodes, edges, nodeSort, nodeOwner, nodeTarget, edgeFrom, edgeTo}
 use Rattle.table.specs.Program.{Program, programOf, within}
 use Rattle.table.proofs.Below.{last-or-before}
-use Rattle.sizes.specs.Causes.{at}
+use Rattle.rules.specs.Causes.{at}
 
 -- the values of f below n, in order
 unfoldable pub row : (ℕ → ℕ) → ℕ → List ℕ

@@ -13,7 +13,7 @@ use Rattle.table.proofs.Booleans.{either-way, not-both, and-true-left, and-true
 use Rattle.sync.specs.Synchronising.{Synchronising}
 use Rattle.size.specs.Size.{unbounded}
 use Rattle.sizes.specs.Answer.{SizesOf}
-use Rattle.sizes.specs.Causes.{at}
+use Rattle.rules.specs.Causes.{at}
 use Rattle.sizes.specs.Values.{Values}
 use Rattle.safety.specs.Safety.{Safe}
 use Rattle.safety.specs.Test.{PostsBelow, EdgesBounded, Tells}

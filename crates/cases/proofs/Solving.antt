@@ -14,14 +14,14 @@ use Rattle.table.proofs.Below.{any-some}
 use Rattle.table.proofs.Booleans.{either-way, not-both, and-true-left, and-true-right}
 use Rattle.sync.specs.Synchronising.{Synchronising, Reached}
 use Rattle.size.specs.Size.{unbounded}
-use Rattle.sizes.specs.System.{Entry, size, along, Form, takes, taken, formOf, gives, none, rule, Solved}
-use Rattle.sizes.specs.Causes.{Given, RuleOf, DerOf, Lead, at}
+use Rattle.rules.specs.System.{Entry, size, along, Form, takes, taken, formOf, gives, none, rule, Solved}
+use Rattle.rules.specs.Causes.{Given, RuleOf, DerOf, Lead, at}
 use Rattle.sizes.specs.Values.{Values, valueAt}
 use Rattle.sizes.specs.Answer.{SizesOf}
-use Rattle.sizes.specs.declared.sums.Sum.the-variants.{After, Before, Through}
+use Rattle.rules.specs.declared.sums.Sum.the-variants.{After, Before, Through}
 use Rattle.sizes.proofs.Maps.{at-zeros}
-use Rattle.sizes.proofs.Rises.{In, lead-refl, lead-trans, rule-lead, pump}
-use Rattle.sizes.proofs.Solved.{solved-least, solved-after, solved-before}
+use Rattle.rules.proofs.Rises.{In, lead-refl, lead-trans, rule-lead, pump}
+use Rattle.rules.proofs.Solved.{solved-least, solved-after, solved-before}
 use Rattle.cases.proofs.Rows.{Rows, programFrom}
 use Rattle.cases.proofs.Entries.{same, same-is, among, among-in, put, entry-all, put-all}
 use Rattle.cases.proofs.Numbers.{Kind, kinds, all, all-kinds, count, form, system, asked, rule-of, number-of}

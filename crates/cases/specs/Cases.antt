@@ -2,8 +2,8 @@
 use Prim.Native.Nat.{ℕ, _/_, _%_}
 use mathlib.Core.List.{List, [], _∷_, _++_}
 use Rattle.size.specs.Size.{unbounded}
-use Rattle.sizes.specs.Choice.{unmerged, guarded, unguarded}
-use Rattle.sizes.specs.Rules.{total, post, pre, through}
+use Rattle.rules.specs.Choice.{unmerged, guarded, unguarded}
+use Rattle.rules.specs.Rules.{total, post, pre, through}
 use Rattle.text.specs.Listing.{ascii}
 use Rattle.cases.specs.Claims.{Case, AllHold, listed, best, sized, unsafe, not-synchronising, refused}
 

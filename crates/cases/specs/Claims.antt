@@ -8,8 +8,8 @@ use Rattle.table.specs.Refusal.{refusal, refusedAt}
 use Rattle.table.specs.Checks.{checks, Accepted}
 use Rattle.table.specs.Program.{Program, programOf}
 use Rattle.sync.specs.Synchronising.{Synchronising}
-use Rattle.sizes.specs.Choice.{ChoiceFor}
-use Rattle.sizes.specs.Rules.{ofFunction, LeastSizes}
+use Rattle.rules.specs.Choice.{ChoiceFor}
+use Rattle.rules.specs.Rules.{ofFunction, LeastSizes}
 use Rattle.sizes.specs.Call.{choiceOf}
 use Rattle.safety.specs.Safety.{Safe}
 use Rattle.choice.specs.Beats.{Best}

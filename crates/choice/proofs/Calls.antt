@@ -13,12 +13,12 @@ use Rattle.table.specs.Program.{programOf}
 use Rattle.table.specs.Answer.{Ready}
 use Rattle.table.proofs.Refusals.{refusal-pass, refusal-here, refusal-none, not-applied, refusal-over-none}
 use Rattle.sync.specs.Answer.{Sets}
-use Rattle.sizes.specs.Rules.{entries}
+use Rattle.rules.specs.Rules.{entries}
 use Rattle.sizes.specs.Call.{done, refused, resultOf}
 use Rattle.sizes.specs.Known.{AdmittedFor}
 use Rattle.sizes.specs.declared.Answer.{Answer}
 use Rattle.sizes.specs.declared.Answer.the-variants.{Done}
-use Rattle.sizes.specs.declared.Known.{Known}
+use Rattle.rules.specs.declared.Known.{Known}
 use Rattle.sizes.proofs.Calls.{told-refused, told-done, none-refused, table-accepted, sizes-short, sizes-long, sizes-fit}
 use Rattle.choice.specs.Call.{BestCall, fewVerdicts, bufferChecks, bestChecks, bestResult}
 

@@ -8,8 +8,8 @@ use Rattle.table.specs.Checks.{Accepted}
 use Rattle.table.specs.Program.{Program, programOf}
 use Rattle.table.specs.SameButEdges.{SameButEdges}
 use Rattle.table.proofs.Laws.{same-program}
-use Rattle.sizes.specs.Choice.{ChoiceFor}
-use Rattle.sizes.specs.Rules.{entries}
+use Rattle.rules.specs.Choice.{ChoiceFor}
+use Rattle.rules.specs.Rules.{entries}
 use Rattle.sizes.specs.Call.{choiceOf, resultOf}
 use Rattle.sizes.specs.declared.Answer.{Answer}
 use Rattle.sizes.specs.declared.Answer.the-variants.{Done, Refused}

@@ -16,8 +16,8 @@ use Rattle.table.specs.Program.{Program, programOf}
 use Rattle.table.specs.WellFormed.{WellFormed}
 use Rattle.table.specs.declared.Counts.{Counts}
 use Rattle.table.proofs.Ready.{nodes-are}
-use Rattle.sizes.specs.Rules.{LeastSizes}
-use Rattle.sizes.specs.System.{Derived}
+use Rattle.rules.specs.Rules.{LeastSizes}
+use Rattle.rules.specs.System.{Derived}
 use Rattle.sizes.specs.Answer.{Written}
 use Rattle.sizes.specs.Call.{choiceOf}
 use Rattle.sizes.proofs.Laws.{sizes-alike, derived-larger}

@@ -14,8 +14,8 @@ use Rattle.table.specs.WellFormed.{WellFormed}
 use Rattle.table.specs.declared.Counts.{Counts}
 use Rattle.table.proofs.Laws.{well-formed}
 use Rattle.table.proofs.Ready.{nodes-are}
-use Rattle.sizes.specs.Choice.{guarded, unguarded, ChoiceFor}
-use Rattle.sizes.specs.Rules.{LeastSizes}
+use Rattle.rules.specs.Choice.{guarded, unguarded, ChoiceFor}
+use Rattle.rules.specs.Rules.{LeastSizes}
 use Rattle.sizes.specs.Answer.{Written}
 use Rattle.sizes.specs.Call.{choiceOf}
 use Rattle.safety.specs.Safety.{Safe}

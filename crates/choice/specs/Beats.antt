@@ -3,7 +3,7 @@ use Prim.Native.Nat.{ℕ, _<_, _≤_}
 use mathlib.Core.Path.{_≡_}
 use mathlib.Core.Logic.{_⊎_, _↔_}
 use Rattle.table.specs.Program.{Program}
-use Rattle.sizes.specs.Choice.{guarded, unguarded, ChoiceFor}
+use Rattle.rules.specs.Choice.{guarded, unguarded, ChoiceFor}
 use Rattle.safety.specs.Safety.{Safe}
 use Rattle.choice.specs.Preference.{IsSpawn, ComesFirst}
 

@@ -8,9 +8,9 @@ use lib.Dec.{eqb}
 use lib.ListN.{set}
 use Rattle.table.specs.Record.{spawn}
 use Rattle.table.specs.Program.{Program}
-use Rattle.sizes.specs.Choice.{unmerged}
-use Rattle.sizes.specs.Rules.{LeastSizes}
-use Rattle.sizes.specs.System.{Derived}
+use Rattle.rules.specs.Choice.{unmerged}
+use Rattle.rules.specs.Rules.{LeastSizes}
+use Rattle.rules.specs.System.{Derived}
 use Rattle.sizes.specs.Answer.{Written}
 use Rattle.sizes.specs.Call.{choiceOf}
 use Rattle.safety.specs.Safety.{Safe}

@@ -1,8 +1,8 @@
 // The search for the best choice: two walks over the spawns in the preference order.
 use crate::order::in_order;
+use rules::Known;
 use safety::judge;
 use size::Size;
-use sizes::Known;
 use sizes::find::find;
 use std::num::wrapping_add_u32;
 use table::Counts;

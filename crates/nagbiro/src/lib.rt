@@ -111,8 +111,8 @@ pub extern "C" fn nagbiro_best_choice(
 {
     match choice::best(t, verdicts, sizes) {
         sizes::Answer::Done => 0,
-        sizes::Answer::Refused(number, at) => {
-            *place = at;
+        sizes::Answer::Refused(number, refused_at) => {
+            *place = refused_at;
             number
         }
     }

@@ -7,7 +7,7 @@ use Rattle.table.specs.Program.{Program}
 use Rattle.table.specs.WellFormed.{WellFormed}
 use Rattle.sync.specs.Paths.{Path, stop, step, Clear, Open}
 use Rattle.size.specs.Size.{unbounded}
-use Rattle.sizes.specs.Sums.{Ahead, afterSum, beforeSum, LargestAfter, LargestBefore}
+use Rattle.rules.specs.Sums.{Ahead, afterSum, beforeSum, LargestAfter, LargestBefore}
 use Rattle.safety.specs.Safety.{cut, CutsBounded}
 use Rattle.safety.specs.Test.{EdgesBounded}
 

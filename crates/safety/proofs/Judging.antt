@@ -10,10 +10,10 @@ use Rattle.sync.specs.Paths.{Path, Open}
 use Rattle.sync.specs.Synchronising.{Synchronising}
 use Rattle.sync.proofs.Laws.{synchronising-unique}
 use Rattle.size.specs.Size.{unbounded}
-use Rattle.sizes.specs.Rules.{entries}
-use Rattle.sizes.specs.Sums.{afterSum, beforeSum}
+use Rattle.rules.specs.Rules.{entries}
+use Rattle.rules.specs.Sums.{afterSum, beforeSum}
 use Rattle.sizes.specs.Answer.{SizesOf}
-use Rattle.sizes.specs.System.{Derived}
+use Rattle.rules.specs.System.{Derived}
 use Rattle.sizes.proofs.Laws.{sizes-unique}
 use Rattle.safety.specs.Safety.{cut, Safe}
 use Rattle.safety.specs.Test.{PostsBelow, EdgesBounded, Tells, Judged}

@@ -16,8 +16,8 @@ use Rattle.sync.specs.Synchronising.{Synchronising}
 use Rattle.sync.proofs.Laws.{synchronising-unique}
 use Rattle.sync.proofs.Paths.{path-exists}
 use Rattle.size.specs.Size.{unbounded}
-use Rattle.sizes.specs.Rules.{through, ofNode, sum, sumAfter, sumBefore, entries, Meets, Least, LeastSizes}
-use Rattle.sizes.specs.Sums.{afterSum, beforeSum}
+use Rattle.rules.specs.Rules.{through, ofNode, sum, sumAfter, sumBefore, entries, Meets, Least, LeastSizes}
+use Rattle.rules.specs.Sums.{afterSum, beforeSum}
 use Rattle.sizes.proofs.Laws.{AtMost, least-alike, sizes-grow}
 use Rattle.safety.specs.Safety.{GivesBack, cut, Safe}
 

@@ -7,8 +7,8 @@ use Rattle.table.specs.Program.{Program}
 use Rattle.sync.specs.Paths.{Path, stop, step, Open}
 use Rattle.sync.specs.Synchronising.{Synchronising}
 use Rattle.size.specs.Size.{unbounded}
-use Rattle.sizes.specs.Rules.{post, ofFunction, Least}
-use Rattle.sizes.specs.Sums.{afterSum, beforeSum}
+use Rattle.rules.specs.Rules.{post, ofFunction, Least}
+use Rattle.rules.specs.Sums.{afterSum, beforeSum}
 
 -- Which functions condition 1 speaks of: "the target of every spawn, merged or not".
 abbrev pub GivesBack : Program → ℕ → Type 0

@@ -5,8 +5,8 @@ use mathlib.Core.Bool.{Bool, true}
 use Rattle.table.specs.Record.{spawn}
 use Rattle.table.specs.Program.{Program}
 use Rattle.size.specs.Size.{unbounded}
-use Rattle.sizes.specs.Rules.{LeastSizes}
-use Rattle.sizes.specs.System.{Derived}
+use Rattle.rules.specs.Rules.{LeastSizes}
+use Rattle.rules.specs.System.{Derived}
 use Rattle.safety.specs.Safety.{Safe}
 
 -- Post of the target of every spawn below n is 0

@@ -1,6 +1,6 @@
 // Safety of a choice. Document 01, "Safety".
+use rules::Known;
 use size::Size;
-use sizes::Known;
 use sizes::admit::admit;
 use sizes::find::find_from;
 use sizes::find::put;
@@ -15,7 +15,7 @@ ghost use Rattle.sync.specs.Words.{member};
 ghost use Rattle.sync.specs.Answer.{Sets};
 ghost use Rattle.size.specs.Size.{valueOf};
 ghost use Rattle.sizes.specs.Call.{choiceOf};
-ghost use Rattle.sizes.specs.System.{Derived};
+ghost use Rattle.rules.specs.System.{Derived};
 ghost use Rattle.sizes.specs.Known.{call};
 ghost use Rattle.safety.specs.Call.{Answers, LeavesSizes};
 ghost use Rattle.safety.specs.Test.{PostsBelow, EdgesBounded, Tells, Judged};

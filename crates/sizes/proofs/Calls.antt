@@ -19,13 +19,13 @@ use Rattle.sync.specs.Answer.{Sets}
 use Rattle.table.proofs.Booleans.{or-false, and-true-left, and-true-right}
 use Rattle.table.proofs.Below.{first-some, first-none, earliest-passed}
 use Rattle.table.proofs.Refusals.{refusal-pass, refusal-here, refusal-none, not-applied, refusal-over-none, refusal-over-some}
-use Rattle.sizes.specs.Choice.{unmerged, unguarded, ChoiceFor}
-use Rattle.sizes.specs.Rules.{entries}
+use Rattle.rules.specs.Choice.{unmerged, unguarded, ChoiceFor}
+use Rattle.rules.specs.Rules.{entries}
 use Rattle.sizes.specs.Call.{Call, choiceOf, wrongLength, outside, tooShort, sizesRow, choiceChecks, callChecks, Result, done, refused, resultFor, tableResult, result, resultOf}
 use Rattle.sizes.specs.Known.{AdmittedFor}
 use Rattle.sizes.specs.declared.Answer.{Answer}
 use Rattle.sizes.specs.declared.Answer.the-variants.{Done, Refused}
-use Rattle.sizes.specs.declared.Known.{Known}
+use Rattle.rules.specs.declared.Known.{Known}
 
 -- ---- any list of checks
 

@@ -10,13 +10,13 @@ use Rattle.table.proofs.Ready.{few-nodes, nodes-are}
 use Rattle.sync.specs.Words.{member}
 use Rattle.sync.specs.Answer.{Sets}
 use Rattle.sizes.specs.Answer.{SizesOf}
-use Rattle.sizes.specs.Sums.{LargestAfter, LargestBefore}
-use Rattle.sizes.specs.System.{size, Derived}
-use Rattle.sizes.specs.Causes.{at}
+use Rattle.rules.specs.Sums.{LargestAfter, LargestBefore}
+use Rattle.rules.specs.System.{size, Derived}
+use Rattle.rules.specs.Causes.{at}
 use Rattle.sizes.specs.Values.{valueAt, SolvedFor}
-use Rattle.sizes.specs.Known.{given}
-use Rattle.sizes.specs.declared.Known.{Known}
-use Rattle.sizes.proofs.Solved.{solved-least, solved-after, solved-before}
+use Rattle.rules.specs.Listed.{given}
+use Rattle.rules.specs.declared.Known.{Known}
+use Rattle.rules.proofs.Solved.{solved-least, solved-after, solved-before}
 
 module _ (t choice : List ℕ) (known : Known) (ready : Ready t (known .of)) (sets : Sets (programOf t) (known .synchronising) (known .reached)) {sizes after before : List ℕ} (s : SolvedFor (given t choice known) sizes after before) where
   few : programOf t .nodes ≤ 512

@@ -13,14 +13,14 @@ use borrow.Author.Tests.{lt-ltb, le-ltb}
 use Rattle.size.specs.Size.{unbounded, cap, valueOf}
 use Rattle.size.specs.declared.Size.{Size}
 use Rattle.size.specs.declared.Size.the-variants.{Bytes}
-use Rattle.sizes.specs.System.{Entry, size, along, Form, formOf, sumOf, gives, none, Derived, Solved}
-use Rattle.sizes.specs.Causes.{Given, RuleOf, DerOf, offset, entryCount, entryAt, Ok, at, Chain, uncaused, Raised, kept, risen, leapt}
-use Rattle.sizes.specs.Listed.{others, Means, headOf, partOf, otherOf, baseOf, Says, Lists}
+use Rattle.rules.specs.System.{Entry, size, along, Form, formOf, sumOf, gives, none, Derived, Solved}
+use Rattle.rules.specs.Causes.{Given, RuleOf, DerOf, offset, entryCount, entryAt, Ok, at, Chain, uncaused, Raised, kept, risen, leapt}
+use Rattle.rules.specs.Listed.{others, Means, headOf, partOf, otherOf, baseOf, Says, Lists}
 use Rattle.sizes.specs.Values.{Values, valuesOf, sums, valueAt, sizePlace, sumPlace, picked, putSums, putSizes, room, roomOf, Long, Turning, Round, left}
-use Rattle.sizes.specs.declared.sums.Sum.{Sum}
-use Rattle.sizes.specs.declared.sums.Sum.the-variants.{After, Before, Through}
+use Rattle.rules.specs.declared.sums.Sum.{Sum}
+use Rattle.rules.specs.declared.sums.Sum.the-variants.{After, Before, Through}
 use Rattle.sizes.proofs.Maps.{map-set, map-at, at-zeros}
-use Rattle.sizes.proofs.Rises.{In, here, there, Put, PutCause, entry-size, entry-after, entry-before, entry-through, entry-along, uncaused-ok, risen-ok, leapt-ok}
+use Rattle.rules.proofs.Rises.{In, here, there, Put, PutCause, entry-size, entry-after, entry-before, entry-through, entry-along, uncaused-ok, risen-ok, leapt-ok}
 
 -- ---- what the code reads of the entries that a rule names
 

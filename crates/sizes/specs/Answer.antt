@@ -5,8 +5,8 @@ use mathlib.Core.List.{List}
 use mathlib.Core.Bool.{Bool}
 use lib.ListN.{length, getD}
 use Rattle.table.specs.Program.{Program}
-use Rattle.sizes.specs.Rules.{Least}
-use Rattle.sizes.specs.Sums.{LargestAfter, LargestBefore}
+use Rattle.rules.specs.Rules.{Least}
+use Rattle.rules.specs.Sums.{LargestAfter, LargestBefore}
 
 -- The least table that meets the rules, and the largest sums along open paths.
 pub record SizesOf (g : Program) (set : ℕ → Bool) (choice sizes after before : ℕ → ℕ) : Type 0 where

@@ -11,8 +11,8 @@ use Rattle.table.specs.Refusal.{Check, Refusal, over, refusal}
 use Rattle.table.specs.Record.{spawn}
 use Rattle.table.specs.Checks.{checks}
 use Rattle.table.specs.Program.{programOf}
-use Rattle.sizes.specs.Choice.{unmerged, unguarded}
-use Rattle.sizes.specs.Rules.{entries, LeastSizes}
+use Rattle.rules.specs.Choice.{unmerged, unguarded}
+use Rattle.rules.specs.Rules.{entries, LeastSizes}
 use Rattle.sizes.specs.Answer.{Written}
 use Rattle.sizes.specs.declared.Answer.{Answer}
 use Rattle.sizes.specs.declared.Answer.the-variants.{Done, Refused}

@@ -7,11 +7,11 @@ use lib.Dec.{ltb}
 use lib.ListN.{length}
 use Rattle.size.specs.Size.{unbounded, valueOf}
 use Rattle.size.specs.declared.Size.{Size}
-use Rattle.sizes.specs.System.{Entry, size, along, Form, gives, Derived, Solved}
-use Rattle.sizes.specs.Causes.{Given, Ok, at, entryCount}
-use Rattle.sizes.specs.Listed.{Says, Lists}
-use Rattle.sizes.specs.declared.sums.Sum.{Sum}
-use Rattle.sizes.specs.declared.sums.Sum.the-variants.{After, Before, Through}
+use Rattle.rules.specs.System.{Entry, size, along, Form, gives, Derived, Solved}
+use Rattle.rules.specs.Causes.{Given, Ok, at, entryCount}
+use Rattle.rules.specs.Listed.{Says, Lists}
+use Rattle.rules.specs.declared.sums.Sum.{Sum}
+use Rattle.rules.specs.declared.sums.Sum.the-variants.{After, Before, Through}
 
 pub record Values : Type 0 where
   pub sizes : List ℕ

@@ -1,7 +1,7 @@
 // What a call that is handed a choice and a sizes buffer is refused for.
 use crate::Answer;
-use crate::Known;
-use crate::targets::chosen;
+use rules::Known;
+use rules::targets::chosen;
 use sync::synchronising;
 use table::Checked;
 use table::Counts;

@@ -1,7 +1,7 @@
 // The least sizes of a choice.
-use crate::Known;
-use crate::list::list_rules;
 use crate::solve::solve;
+use rules::Known;
+use rules::list::list_rules;
 use size::Size;
 ghost use mathlib.Core.Path.{_≡_};
 ghost use mathlib.Core.List.{map};
@@ -12,11 +12,11 @@ ghost use Rattle.table.specs.Program.{programOf};
 ghost use Rattle.sync.specs.Words.{member};
 ghost use Rattle.sync.specs.Answer.{Sets};
 ghost use Rattle.size.specs.Size.{valueOf};
-ghost use Rattle.sizes.specs.Rules.{entries};
+ghost use Rattle.rules.specs.Rules.{entries};
 ghost use Rattle.sizes.specs.Answer.{SizesOf, Written};
 ghost use Rattle.sizes.specs.Call.{Leaves};
-ghost use Rattle.sizes.specs.System.{Derived};
-ghost use Rattle.sizes.specs.Causes.{at};
+ghost use Rattle.rules.specs.System.{Derived};
+ghost use Rattle.rules.specs.Causes.{at};
 ghost use Rattle.sizes.specs.declared.Answer.the-variants.{Done};
 
 // "every entry starts from zero"

@@ -2,15 +2,10 @@
 pub mod admit;
 mod causes;
 pub mod find;
-mod list;
-mod rules;
 mod solve;
-pub mod sums;
-mod targets;
 
 use admit::admit;
 use find::put;
-use table::Counts;
 ghost use mathlib.Core.Path.{_≡_};
 ghost use lib.ListN.{length};
 ghost use Rattle.sizes.specs.Call.{result, resultOf, Leaves};
@@ -20,13 +15,6 @@ ghost use Rattle.sizes.specs.Known.{call};
 pub enum Answer {
     Done,
     Refused(u32, usize),
-}
-
-// What the crates below have found of an accepted table: its counts, its synchronising nodes, and those that are reached without them.
-pub struct Known {
-    pub of: Counts,
-    pub synchronising: [u64; 8],
-    pub reached: [u64; 8],
 }
 
 // Writes the sizes of a choice: for each function and then each node Total, Post, Pre, Through, unbounded as 65,536.

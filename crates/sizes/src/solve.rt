@@ -9,8 +9,8 @@ ghost use lib.Dec.{ltb};
 ghost use lib.ListN.{length, replicate};
 ghost use Rattle.size.specs.Size.{valueOf, cap};
 ghost use Rattle.sizes.specs.Answer.{Written};
-ghost use Rattle.sizes.specs.Causes.{at};
-ghost use Rattle.sizes.specs.Listed.{headOf, partOf, otherOf, baseOf, Named};
+ghost use Rattle.rules.specs.Causes.{at};
+ghost use Rattle.rules.specs.Listed.{headOf, partOf, otherOf, baseOf, Named};
 ghost use Rattle.sizes.specs.Values.{sizePlace, sumPlace, picked, Settles};
 
 fn zero_sums() -> [Size; 512]

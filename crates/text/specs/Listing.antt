@@ -13,8 +13,8 @@ use Rattle.table.specs.Answer.{refused as isRefused}
 use Rattle.table.specs.Checks.{Accepted}
 use Rattle.table.specs.Program.{Program, programOf}
 use Rattle.size.specs.Size.{unbounded}
-use Rattle.sizes.specs.Choice.{unmerged, guarded}
-use Rattle.sizes.specs.Rules.{total, post, pre, through, ofFunction, ofNode, LeastSizes}
+use Rattle.rules.specs.Choice.{unmerged, guarded}
+use Rattle.rules.specs.Rules.{total, post, pre, through, ofFunction, ofNode, LeastSizes}
 use Rattle.choice.specs.Beats.{Returned}
 
 -- The bytes of a text in ASCII: of its first n characters, and of all.

@@ -2,7 +2,7 @@
 use Prim.Native.Nat.{ℕ}
 use mathlib.Core.List.{List}
 use Rattle.table.specs.Program.{programOf}
-use Rattle.sizes.specs.Rules.{LeastSizes}
+use Rattle.rules.specs.Rules.{LeastSizes}
 use Rattle.choice.specs.Beats.{Returned}
 use Rattle.text.specs.Listing.{listing}
 use Rattle.text.specs.Append.{Appended}

@@ -6,7 +6,7 @@ use lib.ListN.{length}
 use Rattle.table.specs.Program.{programOf}
 use Rattle.table.proofs.Ready.{few-functions, few-nodes, functions-are, nodes-are}
 use Rattle.size.specs.Size.{valueOf}
-use Rattle.sizes.specs.Rules.{entries}
+use Rattle.rules.specs.Rules.{entries}
 use Rattle.sizes.specs.Call.{choiceOf, resultOf}
 use Rattle.choice.specs.Call.{bestCall}
 use Rattle.choice.proofs.Calls.{admission}

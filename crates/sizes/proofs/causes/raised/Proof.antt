@@ -1,7 +1,7 @@
 use mathlib.Core.Path.{refl, _∙_}
 use mathlib.Core.Logic.{inl, inr, ⊎-elim}
 use native.Mathlib.Omega.{arith}
-use Rattle.sizes.specs.Causes.{kept, risen, leapt}
+use Rattle.rules.specs.Causes.{kept, risen, leapt}
 use borrow.Author.Needs.{needs}
 use Rattle.sizes.proofs.causes.raised.Statement.{statement}
 use Rattle.sizes.proofs.causes.raised.Tie as tie

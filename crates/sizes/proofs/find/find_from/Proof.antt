@@ -3,7 +3,7 @@ use mathlib.Core.Path.{refl}
 use native.Mathlib.Omega.{arith}
 use lib.ListN.{length-replicate}
 use borrow.Author.Needs.{needs}
-use Rattle.sizes.specs.Known.{given}
+use Rattle.rules.specs.Listed.{given}
 use Rattle.sizes.proofs.Closing.{sizes-found, sizes-derived}
 use Rattle.sizes.proofs.find.find_from.Statement.{statement}
 use Rattle.sizes.proofs.find.find_from.Tie as tie

@@ -1,0 +1,58 @@
+use native.Mathlib.Omega.{arith}
+use Rattle.rules.proofs.Numbers.{few, step-means}
+use borrow.Author.Needs.{needs}
+use Rattle.rules.proofs.kinds.step_rule.Statement.{statement}
+use Rattle.rules.proofs.kinds.step_rule.Tie as tie
+
+edge-from-requires : tie.Need-edge-from-requires
+edge-from-requires c κs = search needs
+
+edge-to-requires : tie.Need-edge-to-requires
+edge-to-requires c κs = search needs
+
+to-node-requires : tie.Need-to-node-requires
+to-node-requires c κs = let f = few (c .before .before .before .before .pre .0) in (omega arith, omega arith)
+
+steps-on-requires : tie.Need-steps-on-requires
+steps-on-requires c κs = search needs
+
+number-requires : tie.Need-number-requires
+number-requires c κs = search needs
+
+from-node-requires : tie.Need-from-node-requires
+from-node-requires c κs = let f = few (c .before .before .before .before .before .before .before .pre .0) in (omega arith, omega arith)
+
+number-requires-2 : tie.Need-number-requires-2
+number-requires-2 c κs = search needs
+
+add-t13 : tie.Need-add-t13
+add-t13 c = omega (arith, few (c .before .before .before .before .before .before .before .before .before .before .pre .0))
+
+mul-t14 : tie.Need-mul-t14
+mul-t14 c = omega (arith, few (c .before .before .before .before .before .before .before .before .before .before .pre .0))
+
+add-t15 : tie.Need-add-t15
+add-t15 c = omega (arith, few (c .before .before .before .before .before .before .before .before .before .before .pre .0))
+
+returns : tie.Need-returns
+returns c =
+    let s = c .before .before .before .before .before .before .before .before .before .before in
+    let p = c .before .before .before .before .before .before .before .edge-from .ensures .0 in
+    let n = c .before .before .before .before .before .before .edge-to .ensures .0 in
+    (cc, step-means (s .pre .0) (s .args .s) p n (c .before .before .from-node .ensures) (c .before .before .before .before .before .to-node .ensures) (c .before .before .before .number .ensures) (c .before .number2 .ensures))
+
+pub step-rule-spec : {M : Type 1} → statement M
+step-rule-spec =
+    tie.close
+    (tie.spec
+    edge-from-requires
+    edge-to-requires
+    to-node-requires
+    steps-on-requires
+    number-requires
+    from-node-requires
+    number-requires-2
+    add-t13
+    mul-t14
+    add-t15
+    returns)

@@ -1,0 +1,199 @@
+-- The rules of the finite system by kind and number, and as words in a list, as the code keeps them. Helps proofs only.
+use Prim.Native.Nat.{ℕ, zero, suc, _+_, _-_, _*_, _/_, _%_, _<_, _≤_}
+use mathlib.Core.Path.{_≡_}
+use mathlib.Core.Bool.{Bool, true, cond}
+use mathlib.Core.List.{List, [], _∷_}
+use lib.Dec.{ltb}
+use lib.ListN.{length}
+use Rattle.table.specs.Record.{edgeFrom, edgeTo}
+use Rattle.table.specs.Program.{programOf}
+use Rattle.table.specs.declared.Counts.{Counts}
+use Rattle.sync.specs.Words.{member}
+use Rattle.size.specs.Size.{unbounded}
+use Rattle.rules.specs.System.{Entry, size, Form, starts, steps, ends, takes, startForm, stepForm, endForm, totalNodeForm, totalEdgeForm, targetForm, formOf}
+use Rattle.rules.specs.Causes.{Given, RuleOf, entryCount, entryAt, at}
+use Rattle.rules.specs.declared.Known.{Known}
+use Rattle.rules.specs.declared.list.Group.{Group}
+use Rattle.rules.specs.declared.list.Group.the-variants.{Node, Edge, Back, Function}
+use Rattle.rules.specs.declared.kinds.Kind.{Kind}
+use Rattle.rules.specs.declared.kinds.Kind.the-variants.{Target, Start, Step, End, TotalNode, TotalEdge}
+use Rattle.rules.specs.declared.sums.Sum.the-variants.{After, Before, Through}
+
+-- What the system rests on, from what the code is given.
+abbrev pub given : List ℕ → List ℕ → Known → Given
+given t choice known = record { program = programOf t; synchronising = member (known .synchronising); reached = member (known .reached); choice = at choice }
+
+-- The rules of a kind go by number: a rule for each size of a node, for each node, edge or function.
+abbrev pub countOf : Counts → Kind → ℕ
+countOf c Target = 4 * c .nodes
+countOf c (Start s) = c .nodes
+countOf c (Step s) = c .edges
+countOf c (End s) = c .functions
+countOf c TotalNode = c .nodes
+countOf c TotalEdge = c .edges
+
+-- Which of them there are,
+abbrev pub onAt : List ℕ → List ℕ → Known → Kind → ℕ → Bool
+onAt t choice known Target i = takes (programOf t) (at choice) (i / 4) (i % 4)
+onAt t choice known (Start s) n = starts (programOf t) s n
+onAt t choice known (Step s) e = steps (member (known .synchronising)) (member (known .reached)) s (edgeFrom t e) (edgeTo t e)
+onAt t choice known (End s) f = ends (programOf t) (member (known .reached)) s f
+onAt t choice known TotalNode n = true
+onAt t choice known TotalEdge e = true
+
+-- and what they say.
+abbrev pub formAt : List ℕ → Kind → ℕ → Form
+formAt t Target i = targetForm (programOf t) (i / 4) (i % 4)
+formAt t (Start s) n = startForm (programOf t) s n
+formAt t (Step s) e = stepForm (programOf t) s (edgeFrom t e) (edgeTo t e)
+formAt t (End s) f = endForm (programOf t) s f
+formAt t TotalNode n = totalNodeForm (programOf t) n
+formAt t TotalEdge e = totalEdgeForm (programOf t) (edgeFrom t e) (edgeTo t e)
+
+-- Rules are listed in groups: those of a node, those of an edge that run with it, the one that runs against it, and those of a function.
+-- The eight of a node: its own sizes' last, so that they come first where the eight are gone over backwards.
+abbrev pub nodeKind : ℕ → Kind
+nodeKind zero = TotalNode
+nodeKind (suc zero) = Start Through
+nodeKind (suc (suc zero)) = Start Before
+nodeKind (suc (suc (suc zero))) = Start After
+nodeKind (suc (suc (suc (suc k)))) = Target
+
+abbrev pub nodeNumber : ℕ → ℕ → ℕ
+nodeNumber n zero = n
+nodeNumber n (suc zero) = n
+nodeNumber n (suc (suc zero)) = n
+nodeNumber n (suc (suc (suc zero))) = n
+nodeNumber n (suc (suc (suc (suc k)))) = 4 * n + k
+
+-- The three of an edge, and of a function.
+abbrev pub edgeKind : ℕ → Kind
+edgeKind zero = Step After
+edgeKind (suc zero) = Step Through
+edgeKind (suc (suc c)) = TotalEdge
+
+abbrev pub functionKind : ℕ → Kind
+functionKind zero = End After
+functionKind (suc zero) = End Before
+functionKind (suc (suc c)) = End Through
+
+-- A group goes by place: how many places it has, and the rule at place i.
+abbrev pub placesOf : Counts → Group → ℕ
+placesOf c Node = 8 * c .nodes
+placesOf c Edge = 3 * c .edges
+placesOf c Back = c .edges
+placesOf c Function = 3 * c .functions
+
+abbrev pub kindAt : Group → ℕ → Kind
+kindAt Node i = nodeKind (7 - i % 8)
+kindAt Edge i = edgeKind (i % 3)
+kindAt Back i = Step Before
+kindAt Function i = functionKind (i % 3)
+
+abbrev pub numberAt : List ℕ → List ℕ → List ℕ → Group → ℕ → ℕ
+numberAt functions nodes edges Node i = nodeNumber (at nodes (i / 8)) (7 - i % 8)
+numberAt functions nodes edges Edge i = at edges (i / 3)
+numberAt functions nodes edges Back i = at edges i
+numberAt functions nodes edges Function i = at functions (i / 3)
+
+-- From lo to hi the q-th place, counted from the last one where rules run against the edges.
+abbrev pub placeAt : Group → ℕ → ℕ → ℕ → ℕ
+placeAt Node lo hi q = lo + q
+placeAt Edge lo hi q = lo + q
+placeAt Back lo hi q = hi - (q + 1)
+placeAt Function lo hi q = lo + q
+
+-- the other entry of a rule's body, if there is one: a size
+abbrev pub others : ℕ → List Entry
+others z = cond (ltb z 2304) (size z ∷ []) []
+
+-- Numbers that say what a rule says.
+pub record Means (f : Form) (head base part other : ℕ) : Type 0 where
+  pub head-low : head < entryCount
+  pub part-low : part < entryCount
+  pub other-low : other < 4096
+  pub base-low : base ≤ unbounded
+  pub head-is : f .head ≡ entryAt head
+  pub base-is : f .base ≡ base
+  pub body-is : f .body ≡ entryAt part ∷ others other
+
+-- The same in one word: 12 bits for each entry, and the base above them.
+abbrev pub headOf : ℕ → ℕ
+headOf w = w % 4096
+
+abbrev pub partOf : ℕ → ℕ
+partOf w = w / 4096 % 4096
+
+abbrev pub otherOf : ℕ → ℕ
+otherOf w = w / 16777216 % 4096
+
+abbrev pub baseOf : ℕ → ℕ
+baseOf w = w / 68719476736
+
+abbrev pub Says : ℕ → Form → Type 0
+Says w f = Means f (headOf w) (baseOf w) (partOf w) (otherOf w)
+
+-- how many places of each group are done
+pub record Progress : Type 0 where
+  pub node : ℕ
+  pub edge : ℕ
+  pub back : ℕ
+  pub function : ℕ
+
+abbrev pub done : Progress → Group → ℕ
+done p Node = p .node
+done p Edge = p .edge
+done p Back = p .back
+done p Function = p .function
+
+abbrev pub upTo : Progress → Group → ℕ → Progress
+upTo p Node hi = record { node = hi; edge = p .edge; back = p .back; function = p .function }
+upTo p Edge hi = record { node = p .node; edge = hi; back = p .back; function = p .function }
+upTo p Back hi = record { node = p .node; edge = p .edge; back = hi; function = p .function }
+upTo p Function hi = record { node = p .node; edge = p .edge; back = p .back; function = hi }
+
+-- nodes up to a, edges up to b and functions up to f are done
+abbrev pub blocks : ℕ → ℕ → ℕ → Progress
+blocks a b f = record { node = 8 * a; edge = 3 * b; back = b; function = 3 * f }
+
+-- What rules are listed from, and in which orders.
+pub record Source : Type 0 where
+  pub table : List ℕ
+  pub choice : List ℕ
+  pub known : Known
+  pub functions : List ℕ
+  pub nodes : List ℕ
+  pub edges : List ℕ
+
+abbrev pub source : List ℕ → List ℕ → Known → List ℕ → List ℕ → List ℕ → Source
+source t choice known functions nodes edges = record { table = t; choice = choice; known = known; functions = functions; nodes = nodes; edges = edges }
+
+-- The rule at place i of a group, if it is there, is among the first words.
+abbrev pub Placed : Source → List ℕ → ℕ → Group → ℕ → Type 0
+Placed x rules count g i = onAt (x .table) (x .choice) (x .known) (kindAt g i) (numberAt (x .functions) (x .nodes) (x .edges) g i) ≡ true → (j : ℕ) × (j < count) × Says (at rules j) (formAt (x .table) (kindAt g i) (numberAt (x .functions) (x .nodes) (x .edges) g i))
+
+-- The first words are rules, and those of the places that are done are among them.
+pub record Listed (x : Source) (p : Progress) (rules : List ℕ) (count : ℕ) : Type 0 where
+  pub each : (j : ℕ) → j < count → (k : Kind) × (i : ℕ) × (i < countOf (x .known .of) k) × (onAt (x .table) (x .choice) (x .known) k i ≡ true) × Says (at rules j) (formAt (x .table) k i)
+  pub all : (g : Group) (i : ℕ) → i < done p g → Placed x rules count g i
+
+-- So it is from lo to hi for the first q places of one group more.
+pub record Listing (x : Source) (p : Progress) (g : Group) (lo hi q : ℕ) (rules : List ℕ) (count : ℕ) : Type 0 where
+  pub listed : Listed x p rules count
+  pub some : (r : ℕ) → r < q → Placed x rules count g (placeAt g lo hi r)
+
+-- What listing from lo to hi does, whatever was done before.
+pub record Lengthens (x : Source) (g : Group) (lo hi : ℕ) (old : List ℕ) (first : ℕ) (new : List ℕ) (count : ℕ) : Type 0 where
+  pub long : length new ≡ length old
+  pub few : count ≤ first + (hi - lo)
+  pub more : (p : Progress) → done p g ≡ lo → Listed x p old first → Listed x (upTo p g hi) new count
+
+-- The first words are the rules of the system, all of them.
+pub record Lists (S : Given) (rules : List ℕ) (count : ℕ) : Type 0 where
+  pub each : (j : ℕ) → j < count → (r : RuleOf S) × Says (at rules j) (formOf r)
+  pub all : (r : RuleOf S) → (j : ℕ) × (j < count) × Says (at rules j) (formOf r)
+
+-- entries that the first words name exist
+pub record Named (rules : List ℕ) (count : ℕ) : Type 0 where
+  pub heads : (j : ℕ) → j < count → headOf (at rules j) < entryCount
+  pub parts : (j : ℕ) → j < count → partOf (at rules j) < entryCount

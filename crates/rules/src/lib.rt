@@ -1,0 +1,14 @@
+// The rules of sizes as a list of words. Document 01, "Sizes and their rules".
+mod kinds;
+pub mod list;
+pub mod sums;
+pub mod targets;
+
+use table::Counts;
+
+// What the crates below have found of an accepted table: its counts, its synchronising nodes, and those that are reached without them.
+pub struct Known {
+    pub of: Counts,
+    pub synchronising: [u64; 8],
+    pub reached: [u64; 8],
+}
