@@ -14,8 +14,7 @@ use Rattle.table.specs.Program.{Program}
 use Rattle.table.specs.WellFormed.{WellFormed}
 use Rattle.table.proofs.Below.{any-which}
 use Rattle.table.proofs.Booleans.{either-way, and-true-left, and-true-right}
-use Rattle.rules.specs.Causes.{at}
-use Rattle.rules.specs.Choice.{unmerged, guarded, unguarded, ChoiceFor}
+use Rattle.rules.specs.Choice.{unmerged, guarded, unguarded, ChoiceFor, at}
 use Rattle.rules.specs.Rules.{LeastSizes}
 use Rattle.sizes.proofs.Laws.{AtMost}
 use Rattle.safety.specs.Safety.{Safe}

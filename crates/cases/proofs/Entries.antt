@@ -8,8 +8,9 @@ use lib.Dec.{eqb}
 use lib.ListN.{set}
 use borrow.Author.Tests.{eqb-true}
 use Rattle.table.proofs.Booleans.{either-way, not-both, and-true-left, and-true-right, or-true-right}
+use Rattle.rules.specs.Choice.{at}
 use Rattle.rules.specs.System.{Entry, size, along}
-use Rattle.rules.specs.Causes.{offset, at}
+use Rattle.rules.specs.Causes.{offset}
 use Rattle.sizes.specs.Values.{Values, sums, valueAt, putSizes, putSums}
 use Rattle.rules.specs.declared.sums.Sum.{Sum}
 use Rattle.rules.specs.declared.sums.Sum.the-variants.{After, Before, Through}

@@ -9,11 +9,11 @@ use native.Mathlib.Decide.{decLt}
 use lib.Dec.{eqb, ltb}
 use lib.ListN.{length, getD, length-append, List·getD-eq-default, List·getD-append}
 use borrow.Author.Tests.{lt-ltb, le-ltb}
+use Rattle.rules.specs.Choice.{at}
 use Rattle.table.specs.Below.{any}
 use Rattle.table.specs.Record.{sortOf, fieldA, fieldB, fieldC, functions, nodes, edges, nodeSort, nodeOwner, nodeTarget, edgeFrom, edgeTo}
 use Rattle.table.specs.Program.{Program, programOf, within}
 use Rattle.table.proofs.Below.{last-or-before}
-use Rattle.rules.specs.Causes.{at}
 
 -- the values of f below n, in order
 unfoldable pub row : (ℕ → ℕ) → ℕ → List ℕ

@@ -15,10 +15,10 @@ use Rattle.table.specs.Program.{Program}
 use Rattle.table.specs.WellFormed.{WellFormed}
 use Rattle.table.proofs.Below.{any-some, any-which}
 use Rattle.table.proofs.Booleans.{either-way, not-both, or-true, and-true-left, and-true-right}
-use Rattle.rules.specs.Causes.{at}
 use Rattle.sync.specs.Paths.{Path, stop, step, On, Holds, Clear}
 use Rattle.sync.specs.Synchronising.{Closed, Synchronising, ReachedBy, Reached}
 use Rattle.sync.proofs.Paths.{clear-or-holds, clear-holds-none}
+use Rattle.rules.specs.Choice.{at}
 use Rattle.cases.proofs.Rows.{Rows, leads, programFrom}
 
 -- a list of bits as a set

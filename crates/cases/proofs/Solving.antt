@@ -14,8 +14,9 @@ use Rattle.table.proofs.Below.{any-some}
 use Rattle.table.proofs.Booleans.{either-way, not-both, and-true-left, and-true-right}
 use Rattle.sync.specs.Synchronising.{Synchronising, Reached}
 use Rattle.size.specs.Size.{unbounded}
+use Rattle.rules.specs.Choice.{at}
 use Rattle.rules.specs.System.{Entry, size, along, Form, takes, taken, formOf, gives, none, rule, Solved}
-use Rattle.rules.specs.Causes.{Given, RuleOf, DerOf, Lead, at}
+use Rattle.rules.specs.Causes.{Given, RuleOf, DerOf, Lead}
 use Rattle.sizes.specs.Values.{Values, valueAt}
 use Rattle.sizes.specs.Answer.{SizesOf}
 use Rattle.rules.specs.declared.sums.Sum.the-variants.{After, Before, Through}

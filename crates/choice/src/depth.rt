@@ -7,7 +7,7 @@ ghost use Prim.Native.Nat.{ℕ, _<_, _≤_};
 ghost use lib.ListN.{length};
 ghost use Rattle.table.specs.Answer.{Ready};
 ghost use Rattle.table.specs.Program.{programOf};
-ghost use Rattle.sizes.specs.Call.{choiceOf};
+ghost use Rattle.rules.specs.Choice.{at};
 ghost use Rattle.choice.specs.Depth.{DepthsOf};
 ghost use Rattle.choice.specs.Levels.{noDepth, Levels, leadsDown, Deepened, Sounded};
 
@@ -15,7 +15,7 @@ ghost use Rattle.choice.specs.Levels.{noDepth, Levels, leadsDown, Deepen
 fn start(t: &[u8], of: Counts, depth: &mut [u32])
     requires { ⌜ Ready (now t) of × (64 ≤ length (now depth)) ⌝ }
     ensures { λ _. ⌜ length (now (depth .exit)) ≡ length (now (depth .entry)) ⌝ }
-    ensures { λ _. ⌜ ((f : ℕ) → f < of .functions → choiceOf (now (depth .exit)) f ≡ cond (programOf (now (t .entry)) .entry f) 0 noDepth) ⌝ }
+    ensures { λ _. ⌜ ((f : ℕ) → f < of .functions → at (now (depth .exit)) f ≡ cond (programOf (now (t .entry)) .entry f) 0 noDepth) ⌝ }
 {
     let mut f: usize = 0;
     while f < of.functions {
@@ -31,7 +31,7 @@ fn start(t: &[u8], of: Counts, depth: &mut [u32])
 // Whether node n leads from a function of this level to one that has no depth yet.
 fn leads_down(t: &[u8], of: Counts, depth: &[u32], level: u32, n: usize) -> bool
     requires { ⌜ Ready (now t) of × (n < of .nodes) × (64 ≤ length (now depth)) ⌝ }
-    ensures { λ r. ⌜ r ≡ leadsDown (programOf (now (t .entry))) level (choiceOf (now (depth .entry))) n ⌝ }
+    ensures { λ r. ⌜ r ≡ leadsDown (programOf (now (t .entry))) level (at (now (depth .entry))) n ⌝ }
 {
     let sort = program::sort(t, of, n);
     let owner = program::owner(t, of, n);
@@ -42,9 +42,9 @@ fn leads_down(t: &[u8], of: Counts, depth: &[u32], level: u32, n: usize) -> bool
 // Gives the next level to the functions that this one leads to, and says whether there was one.
 fn deepen(t: &[u8], of: Counts, depth: &mut [u32], level: u32) -> bool
     requires { ⌜ Ready (now t) of × (64 ≤ length (now depth)) × (level ≤ 64) ⌝ }
-    requires { ⌜ Levels (programOf (now t)) level (choiceOf (now depth)) ⌝ }
+    requires { ⌜ Levels (programOf (now t)) level (at (now depth)) ⌝ }
     ensures { λ r. ⌜ length (now (depth .exit)) ≡ length (now (depth .entry)) ⌝ }
-    ensures { λ r. ⌜ Deepened (programOf (now (t .entry))) level (of .nodes) (choiceOf (now (depth .entry))) (choiceOf (now (depth .exit))) r ⌝ }
+    ensures { λ r. ⌜ Deepened (programOf (now (t .entry))) level (of .nodes) (at (now (depth .entry))) (at (now (depth .exit))) r ⌝ }
 {
     let mut grew = false;
     let mut n: usize = 0;
@@ -63,7 +63,7 @@ fn deepen(t: &[u8], of: Counts, depth: &mut [u32], level: u32) -> bool
 fn sound(t: &[u8], of: Counts, depth: &mut [u32])
     requires { ⌜ Ready (now t) of × (64 ≤ length (now depth)) ⌝ }
     ensures { λ _. ⌜ length (now (depth .exit)) ≡ length (now (depth .entry)) ⌝ }
-    ensures { λ _. ⌜ Sounded (programOf (now (t .entry))) (choiceOf (now (depth .exit))) ⌝ }
+    ensures { λ _. ⌜ Sounded (programOf (now (t .entry))) (at (now (depth .exit))) ⌝ }
 {
     start(t, of, depth);
     let mut level: u32 = 0;
@@ -78,7 +78,7 @@ fn sound(t: &[u8], of: Counts, depth: &mut [u32])
 pub(crate) fn depths(t: &[u8], of: Counts, depth: &mut [u32])
     requires { ⌜ Ready (now t) of × (64 ≤ length (now depth)) ⌝ }
     ensures { λ _. ⌜ length (now (depth .exit)) ≡ length (now (depth .entry)) ⌝ }
-    ensures { λ _. ⌜ DepthsOf (programOf (now (t .entry))) (choiceOf (now (depth .exit))) ⌝ }
+    ensures { λ _. ⌜ DepthsOf (programOf (now (t .entry))) (at (now (depth .exit))) ⌝ }
 {
     sound(t, of, depth);
     let mut f: usize = 0;

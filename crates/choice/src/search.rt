@@ -16,6 +16,7 @@ ghost use Rattle.table.specs.Program.{programOf};
 ghost use Rattle.sync.specs.Words.{member};
 ghost use Rattle.sync.specs.Answer.{Sets};
 ghost use Rattle.size.specs.Size.{valueOf};
+ghost use Rattle.rules.specs.Choice.{at};
 ghost use Rattle.sizes.specs.Answer.{Written};
 ghost use Rattle.sizes.specs.Call.{choiceOf};
 ghost use Rattle.safety.specs.Safety.{Safe};
@@ -55,9 +56,9 @@ fn attempt(
 ) -> [Size; 2304]
     requires { ⌜ Ready (now t) (known .of) × Sets (programOf (now t)) (known .synchronising) (known .reached) ⌝ }
     requires { ⌜ (n < length (now verdicts)) × (choiceOf (now verdicts) n ≤ k) ⌝ }
-    requires { ⌜ Sized (programOf (now t)) (member (known .synchronising)) (member (known .reached)) (choiceOf (now verdicts)) (choiceOf (map valueOf from)) ⌝ }
+    requires { ⌜ Sized (programOf (now t)) (member (known .synchronising)) (member (known .reached)) (choiceOf (now verdicts)) (at (map valueOf from)) ⌝ }
     ensures { λ _. ⌜ Tried (programOf (now (t .entry))) n k (now (verdicts .entry)) (now (verdicts .exit)) ⌝ }
-    ensures { λ r. ⌜ Sized (programOf (now (t .entry))) (member (known .synchronising)) (member (known .reached)) (choiceOf (now (verdicts .exit))) (choiceOf (map valueOf r)) ⌝ }
+    ensures { λ r. ⌜ Sized (programOf (now (t .entry))) (member (known .synchronising)) (member (known .reached)) (choiceOf (now (verdicts .exit))) (at (map valueOf r)) ⌝ }
 {
     let old = verdicts[n];
     verdicts[n] = k;
@@ -83,12 +84,12 @@ fn one_by_one(
     passes: &mut u32,
 ) -> [Size; 2304]
     requires { ⌜ Ready (now t) (known .of) × Sets (programOf (now t)) (known .synchronising) (known .reached) ⌝ }
-    requires { ⌜ (count ≤ length (now order)) × InOrder (programOf (now t)) count (choiceOf (now order)) ⌝ }
+    requires { ⌜ (count ≤ length (now order)) × InOrder (programOf (now t)) count (at (now order)) ⌝ }
     requires { ⌜ (1 ≤ k) × (known .of .nodes ≤ length (now verdicts)) × Safe (programOf (now t)) (choiceOf (now verdicts)) ⌝ }
-    requires { ⌜ Sized (programOf (now t)) (member (known .synchronising)) (member (known .reached)) (choiceOf (now verdicts)) (choiceOf (map valueOf from)) ⌝ }
-    ensures { λ _. ⌜ Walked (programOf (now (t .entry))) k count (choiceOf (now (order .entry))) (choiceOf (now (verdicts .entry))) (choiceOf (now (verdicts .exit))) ⌝ }
+    requires { ⌜ Sized (programOf (now t)) (member (known .synchronising)) (member (known .reached)) (choiceOf (now verdicts)) (at (map valueOf from)) ⌝ }
+    ensures { λ _. ⌜ Walked (programOf (now (t .entry))) k count (at (now (order .entry))) (choiceOf (now (verdicts .entry))) (choiceOf (now (verdicts .exit))) ⌝ }
     ensures { λ _. ⌜ Written (known .of .nodes) (choiceOf (now (verdicts .exit))) (now (verdicts .entry)) (now (verdicts .exit)) ⌝ }
-    ensures { λ r. ⌜ Sized (programOf (now (t .entry))) (member (known .synchronising)) (member (known .reached)) (choiceOf (now (verdicts .exit))) (choiceOf (map valueOf r)) ⌝ }
+    ensures { λ r. ⌜ Sized (programOf (now (t .entry))) (member (known .synchronising)) (member (known .reached)) (choiceOf (now (verdicts .exit))) (at (map valueOf r)) ⌝ }
 {
     let mut sizes = from;
     let mut i: usize = 0;
@@ -146,7 +147,7 @@ fn raise_all(nodes: usize, k: u8, verdicts: &[u8], all: &mut [u8])
 // Writes the first bytes of one buffer to another.
 fn copy(count: usize, from: &[u8], to: &mut [u8])
     requires { ⌜ (count ≤ length (now from)) × (count ≤ length (now to)) ⌝ }
-    ensures { λ _. ⌜ Written count (choiceOf (now (from .entry))) (now (to .entry)) (now (to .exit)) ⌝ }
+    ensures { λ _. ⌜ Written count (at (now (from .entry))) (now (to .entry)) (now (to .exit)) ⌝ }
 {
     let mut i: usize = 0;
     while i < count {
@@ -168,9 +169,9 @@ fn all_at_once(
 ) -> [Size; 2304]
     requires { ⌜ Ready (now t) (known .of) × Sets (programOf (now t)) (known .synchronising) (known .reached) ⌝ }
     requires { ⌜ (1 ≤ k) × (known .of .nodes ≤ length (now verdicts)) ⌝ }
-    requires { ⌜ Sized (programOf (now t)) (member (known .synchronising)) (member (known .reached)) (choiceOf (now verdicts)) (choiceOf (map valueOf from)) ⌝ }
+    requires { ⌜ Sized (programOf (now t)) (member (known .synchronising)) (member (known .reached)) (choiceOf (now verdicts)) (at (map valueOf from)) ⌝ }
     ensures { λ _. ⌜ TriedAll (programOf (now (t .entry))) k (now (verdicts .entry)) (now (verdicts .exit)) (now (done .exit)) ⌝ }
-    ensures { λ r. ⌜ Sized (programOf (now (t .entry))) (member (known .synchronising)) (member (known .reached)) (choiceOf (now (verdicts .exit))) (choiceOf (map valueOf r)) ⌝ }
+    ensures { λ r. ⌜ Sized (programOf (now (t .entry))) (member (known .synchronising)) (member (known .reached)) (choiceOf (now (verdicts .exit))) (at (map valueOf r)) ⌝ }
 {
     let mut all = [0u8; 512];
     raise_all(known.of.nodes, k, verdicts, &mut all);
@@ -197,9 +198,9 @@ fn at_once(
 ) -> [Size; 2304]
     requires { ⌜ Ready (now t) (known .of) × Sets (programOf (now t)) (known .synchronising) (known .reached) ⌝ }
     requires { ⌜ (1 ≤ k) × (known .of .nodes ≤ length (now verdicts)) ⌝ }
-    requires { ⌜ Sized (programOf (now t)) (member (known .synchronising)) (member (known .reached)) (choiceOf (now verdicts)) (choiceOf (map valueOf from)) ⌝ }
+    requires { ⌜ Sized (programOf (now t)) (member (known .synchronising)) (member (known .reached)) (choiceOf (now verdicts)) (at (map valueOf from)) ⌝ }
     ensures { λ _. ⌜ TriedAll (programOf (now (t .entry))) k (now (verdicts .entry)) (now (verdicts .exit)) (now (done .exit)) ⌝ }
-    ensures { λ r. ⌜ Sized (programOf (now (t .entry))) (member (known .synchronising)) (member (known .reached)) (choiceOf (now (verdicts .exit))) (choiceOf (map valueOf r)) ⌝ }
+    ensures { λ r. ⌜ Sized (programOf (now (t .entry))) (member (known .synchronising)) (member (known .reached)) (choiceOf (now (verdicts .exit))) (at (map valueOf r)) ⌝ }
 {
     *done = 0;
     let wait = waiting(known.of.nodes, k, verdicts);
@@ -229,12 +230,12 @@ fn walk(
     passes: &mut u32,
 ) -> [Size; 2304]
     requires { ⌜ Ready (now t) (known .of) × Sets (programOf (now t)) (known .synchronising) (known .reached) ⌝ }
-    requires { ⌜ (count ≤ length (now order)) × InOrder (programOf (now t)) count (choiceOf (now order)) ⌝ }
+    requires { ⌜ (count ≤ length (now order)) × InOrder (programOf (now t)) count (at (now order)) ⌝ }
     requires { ⌜ (2 ≤ k) × (known .of .nodes ≤ length (now verdicts)) × Safe (programOf (now t)) (choiceOf (now verdicts)) × OthersZero (programOf (now t)) (choiceOf (now verdicts)) ⌝ }
-    requires { ⌜ Sized (programOf (now t)) (member (known .synchronising)) (member (known .reached)) (choiceOf (now verdicts)) (choiceOf (map valueOf from)) ⌝ }
-    ensures { λ _. ⌜ Walked (programOf (now (t .entry))) k count (choiceOf (now (order .entry))) (choiceOf (now (verdicts .entry))) (choiceOf (now (verdicts .exit))) ⌝ }
+    requires { ⌜ Sized (programOf (now t)) (member (known .synchronising)) (member (known .reached)) (choiceOf (now verdicts)) (at (map valueOf from)) ⌝ }
+    ensures { λ _. ⌜ Walked (programOf (now (t .entry))) k count (at (now (order .entry))) (choiceOf (now (verdicts .entry))) (choiceOf (now (verdicts .exit))) ⌝ }
     ensures { λ _. ⌜ Written (known .of .nodes) (choiceOf (now (verdicts .exit))) (now (verdicts .entry)) (now (verdicts .exit)) ⌝ }
-    ensures { λ r. ⌜ Sized (programOf (now (t .entry))) (member (known .synchronising)) (member (known .reached)) (choiceOf (now (verdicts .exit))) (choiceOf (map valueOf r)) ⌝ }
+    ensures { λ r. ⌜ Sized (programOf (now (t .entry))) (member (known .synchronising)) (member (known .reached)) (choiceOf (now (verdicts .exit))) (at (map valueOf r)) ⌝ }
 {
     let mut done: u32 = 0;
     let found = at_once(
@@ -257,7 +258,7 @@ fn walk(
 // The sizes of the choice in the first bytes, from zero on.
 fn sizes_of(t: &[u8], known: Known, verdicts: &[u8], passes: &mut u32) -> [Size; 2304]
     requires { ⌜ Ready (now t) (known .of) × Sets (programOf (now t)) (known .synchronising) (known .reached) ⌝ }
-    ensures { λ r. ⌜ Sized (programOf (now (t .entry))) (member (known .synchronising)) (member (known .reached)) (choiceOf (now (verdicts .entry))) (choiceOf (map valueOf r)) ⌝ }
+    ensures { λ r. ⌜ Sized (programOf (now (t .entry))) (member (known .synchronising)) (member (known .reached)) (choiceOf (now (verdicts .entry))) (at (map valueOf r)) ⌝ }
 {
     let mut after = [0u32; 512];
     let mut before = [0u32; 512];
@@ -275,7 +276,7 @@ pub fn choose(
 ) -> [Size; 2304]
     requires { ⌜ Ready (now t) (known .of) × Sets (programOf (now t)) (known .synchronising) (known .reached) ⌝ }
     requires { ⌜ known .of .nodes ≤ length (now verdicts) ⌝ }
-    ensures { λ r. ⌜ Chosen (programOf (now (t .entry))) (now (verdicts .entry)) (now (verdicts .exit)) (choiceOf (map valueOf r)) ⌝ }
+    ensures { λ r. ⌜ Chosen (programOf (now (t .entry))) (now (verdicts .entry)) (now (verdicts .exit)) (at (map valueOf r)) ⌝ }
 {
     let mut order = [0usize; 512];
     let count = in_order(t, known.of, &mut order);

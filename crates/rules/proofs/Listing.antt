@@ -17,8 +17,9 @@ use Rattle.table.proofs.Laws.{edge-which}
 use Rattle.table.proofs.Ready.{functions-are, nodes-are, edge-is}
 use Rattle.sync.specs.Words.{member}
 use Rattle.order.specs.Order.{Ordered, Orders}
+use Rattle.rules.specs.Choice.{at}
 use Rattle.rules.specs.System.{Form, steps, takes, stepForm, totalEdgeForm, targetForm, formOf, start, step-on, end, total-node, total-edge, target-of}
-use Rattle.rules.specs.Causes.{RuleOf, at}
+use Rattle.rules.specs.Causes.{RuleOf}
 use Rattle.rules.specs.Listed.{given}
 use Rattle.rules.specs.Listed.{countOf, onAt, formAt, nodeKind, nodeNumber, edgeKind, functionKind, placesOf, kindAt, numberAt, placeAt, Progress, done, upTo, blocks, Source, source, Means, headOf, partOf, otherOf, baseOf, Says, Placed, Listed, Listing, Lengthens, Lists, Named}
 use Rattle.rules.specs.declared.Known.{Known}

@@ -5,9 +5,10 @@ use mathlib.Core.Bool.{Bool, cond}
 use mathlib.Core.List.{List}
 use mathlib.Core.Logic.{_⊎_}
 use lib.Dec.{ltb}
-use lib.ListN.{getD, set}
+use lib.ListN.{set}
 use Rattle.table.specs.Program.{Program}
 use Rattle.size.specs.Size.{unbounded, cap}
+use Rattle.rules.specs.Choice.{at}
 use Rattle.rules.specs.System.{Entry, size, along, Rule, Der}
 use Rattle.rules.specs.declared.sums.Sum.{Sum}
 use Rattle.rules.specs.declared.sums.Sum.the-variants.{After, Before, Through}
@@ -47,10 +48,6 @@ pub record Lead (S : Given) (x : Entry) (t : ℕ) (y : Entry) (u : ℕ) : Type 0
 pub record Ok (S : Given) (v : Entry → ℕ) (k : ℕ → ℕ) : Type 0 where
   pub sound : (x : Entry) → DerOf S x (v x)
   pub leads : (x : ℕ) → x < entryCount → k x < entryCount → Lead S (entryAt x) (v (entryAt x)) (entryAt (k x)) (v (entryAt (k x)))
-
--- a list as a map
-abbrev pub at : List ℕ → ℕ → ℕ
-at l x = getD l x 0
 
 -- The causes lead from x to z.
 pub data Chain (k : ℕ → ℕ) (z : ℕ) : ℕ → Type 0 where

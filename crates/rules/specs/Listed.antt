@@ -10,8 +10,9 @@ use Rattle.table.specs.Program.{programOf}
 use Rattle.table.specs.declared.Counts.{Counts}
 use Rattle.sync.specs.Words.{member}
 use Rattle.size.specs.Size.{unbounded}
+use Rattle.rules.specs.Choice.{at}
 use Rattle.rules.specs.System.{Entry, size, Form, starts, steps, ends, takes, startForm, stepForm, endForm, totalNodeForm, totalEdgeForm, targetForm, formOf}
-use Rattle.rules.specs.Causes.{Given, RuleOf, entryCount, entryAt, at}
+use Rattle.rules.specs.Causes.{Given, RuleOf, entryCount, entryAt}
 use Rattle.rules.specs.declared.Known.{Known}
 use Rattle.rules.specs.declared.list.Group.{Group}
 use Rattle.rules.specs.declared.list.Group.the-variants.{Node, Edge, Back, Function}

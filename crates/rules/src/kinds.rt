@@ -23,8 +23,8 @@ ghost use Rattle.table.specs.Record.{edgeFrom, edgeTo};
 ghost use Rattle.table.specs.Answer.{Ready};
 ghost use Rattle.table.specs.Program.{programOf};
 ghost use Rattle.sync.specs.Words.{member};
+ghost use Rattle.rules.specs.Choice.{at};
 ghost use Rattle.rules.specs.System.{takes, starts, steps, ends, startForm, stepForm, endForm, totalNodeForm, totalEdgeForm, targetForm};
-ghost use Rattle.rules.specs.Causes.{at};
 ghost use Rattle.rules.specs.Listed.{countOf, onAt, formAt, Means};
 
 // Which rules: of the sizes of nodes that rest on a target; of a sum of nodes, where it starts, along the edges, and where it is done;

@@ -5,8 +5,8 @@ ghost use mathlib.Core.Path.{_≡_};
 ghost use Prim.Native.Nat.{_<_, _≤_};
 ghost use Rattle.table.specs.Answer.{Ready};
 ghost use Rattle.table.specs.Program.{programOf};
+ghost use Rattle.rules.specs.Choice.{at};
 ghost use Rattle.rules.specs.System.{takes, taken};
-ghost use Rattle.rules.specs.Causes.{at};
 
 // The byte of node n in a choice, and 0 past its end.
 pub fn chosen(choice: &[u8], n: usize) -> u8

@@ -13,7 +13,7 @@ use Rattle.table.proofs.Booleans.{not-both}
 use Rattle.table.proofs.Laws.{edge-which}
 use Rattle.table.proofs.Ready.{edge-is}
 use Rattle.size.specs.Size.{unbounded}
-use Rattle.sizes.specs.Call.{choiceOf}
+use Rattle.rules.specs.Choice.{at}
 use Rattle.safety.specs.Test.{PostsBelow, EdgesBounded, Tells}
 
 -- what a test that ended says
@@ -43,25 +43,25 @@ module _ (g : Program) (sizes : ℕ → ℕ) where
 
 -- the first edges, e of them, do not have unbounded sums on both sides
 pub record EdgesBelow (t after before : List ℕ) (e : ℕ) : Type 0 where
-  pub not-below : (j : ℕ) → j < e → choiceOf after (edgeFrom t j) ≡ unbounded → choiceOf before (edgeTo t j) ≡ unbounded → ⊥
+  pub not-below : (j : ℕ) → j < e → at after (edgeFrom t j) ≡ unbounded → at before (edgeTo t j) ≡ unbounded → ⊥
 
 module _ (t after before : List ℕ) where
   pub edges-none : EdgesBelow t after before 0
   edges-none = record { not-below = λ j h. absurd (omega arith) }
 
-  pub edges-more : {e : ℕ} → EdgesBelow t after before e → (choiceOf after (edgeFrom t e) ≡ unbounded → choiceOf before (edgeTo t e) ≡ unbounded → ⊥) → EdgesBelow t after before (e + 1)
+  pub edges-more : {e : ℕ} → EdgesBelow t after before e → (at after (edgeFrom t e) ≡ unbounded → at before (edgeTo t e) ≡ unbounded → ⊥) → EdgesBelow t after before (e + 1)
   edges-more {e} p z = record { not-below = λ j h. go j h (ℕ-discrete j e) }
     where
-      go : (j : ℕ) → j < e + 1 → Dec (j ≡ e) → choiceOf after (edgeFrom t j) ≡ unbounded → choiceOf before (edgeTo t j) ≡ unbounded → ⊥
+      go : (j : ℕ) → j < e + 1 → Dec (j ≡ e) → at after (edgeFrom t j) ≡ unbounded → at before (edgeTo t j) ≡ unbounded → ⊥
       go j h (yes q) = rw q z
       go j h (no q) = p .not-below j (omega (arith, q))
 
   module _ (of : Counts) (ready : Ready t of) where
-    pub edges-all : (e : ℕ) → of .edges ≤ e → EdgesBelow t after before e → EdgesBounded (programOf t) (choiceOf after) (choiceOf before)
+    pub edges-all : (e : ℕ) → of .edges ≤ e → EdgesBelow t after before e → EdgesBounded (programOf t) (at after) (at before)
     edges-all e h p = record { not-both = λ a b i x y. one a b (edge-which t a b i) x y }
       where
-        one : (a b : ℕ) → (j : ℕ) × (j < edges t) × (edgeFrom t j ≡ a) × (edgeTo t j ≡ b) → choiceOf after a ≡ unbounded → choiceOf before b ≡ unbounded → ⊥
-        one a b j x y = p .not-below (j .0) (omega (arith, j .1, ready .counts-are .edges-are)) (ap (choiceOf after) (j .2) ∙ x) (ap (choiceOf before) (j .3) ∙ y)
+        one : (a b : ℕ) → (j : ℕ) × (j < edges t) × (edgeFrom t j ≡ a) × (edgeTo t j ≡ b) → at after a ≡ unbounded → at before b ≡ unbounded → ⊥
+        one a b j x y = p .not-below (j .0) (omega (arith, j .1, ready .counts-are .edges-are)) (ap (at after) (j .2) ∙ x) (ap (at before) (j .3) ∙ y)
 
-    pub edge-both : (e : ℕ) → e < of .edges → choiceOf after (edgeFrom t e) ≡ unbounded → choiceOf before (edgeTo t e) ≡ unbounded → EdgesBounded (programOf t) (choiceOf after) (choiceOf before) → ⊥
+    pub edge-both : (e : ℕ) → e < of .edges → at after (edgeFrom t e) ≡ unbounded → at before (edgeTo t e) ≡ unbounded → EdgesBounded (programOf t) (at after) (at before) → ⊥
     edge-both e h x y b = b .not-both (edgeFrom t e) (edgeTo t e) (edge-is t of ready e h) x y

@@ -14,6 +14,7 @@ ghost use Rattle.table.specs.Program.{programOf};
 ghost use Rattle.sync.specs.Words.{member};
 ghost use Rattle.sync.specs.Answer.{Sets};
 ghost use Rattle.size.specs.Size.{valueOf};
+ghost use Rattle.rules.specs.Choice.{at};
 ghost use Rattle.sizes.specs.Call.{choiceOf};
 ghost use Rattle.rules.specs.System.{Derived};
 ghost use Rattle.sizes.specs.Known.{call};
@@ -30,7 +31,7 @@ pub enum Answer {
 // Condition 1: whether Post of the target of every spawn is 0.
 fn posts_zero(t: &[u8], of: Counts, sizes: [Size; 2304]) -> bool
     requires { ⌜ Ready (now t) of ⌝ }
-    ensures { λ r. ⌜ Tells r (PostsBelow (programOf (now (t .entry))) (choiceOf (map valueOf sizes)) (of .nodes)) ⌝ }
+    ensures { λ r. ⌜ Tells r (PostsBelow (programOf (now (t .entry))) (at (map valueOf sizes)) (of .nodes)) ⌝ }
 {
     let mut n: usize = 0;
     while n < of.nodes {
@@ -49,7 +50,7 @@ fn posts_zero(t: &[u8], of: Counts, sizes: [Size; 2304]) -> bool
 // Condition 2: whether no edge has unbounded sums on both sides.
 fn edges_bounded(t: &[u8], of: Counts, after: &[u32], before: &[u32]) -> bool
     requires { ⌜ Ready (now t) of × (length (now after) ≡ 512) × (length (now before) ≡ 512) ⌝ }
-    ensures { λ r. ⌜ Tells r (EdgesBounded (programOf (now (t .entry))) (choiceOf (now (after .entry))) (choiceOf (now (before .entry)))) ⌝ }
+    ensures { λ r. ⌜ Tells r (EdgesBounded (programOf (now (t .entry))) (at (now (after .entry))) (at (now (before .entry)))) ⌝ }
 {
     let mut e: usize = 0;
     while e < of.edges {
@@ -68,7 +69,7 @@ fn edges_bounded(t: &[u8], of: Counts, after: &[u32], before: &[u32]) -> bool
 // Whether both conditions hold.
 fn both_hold(t: &[u8], of: Counts, sizes: [Size; 2304], after: &[u32], before: &[u32]) -> bool
     requires { ⌜ Ready (now t) of × (length (now after) ≡ 512) × (length (now before) ≡ 512) ⌝ }
-    ensures { λ r. ⌜ Tells r (PostsBelow (programOf (now (t .entry))) (choiceOf (map valueOf sizes)) (of .nodes) × EdgesBounded (programOf (now (t .entry))) (choiceOf (now (after .entry))) (choiceOf (now (before .entry)))) ⌝ }
+    ensures { λ r. ⌜ Tells r (PostsBelow (programOf (now (t .entry))) (at (map valueOf sizes)) (of .nodes) × EdgesBounded (programOf (now (t .entry))) (at (now (after .entry))) (at (now (before .entry)))) ⌝ }
 {
     if posts_zero(t, of, sizes) {
         return edges_bounded(t, of, after, before);
@@ -87,8 +88,8 @@ pub fn judge(
     passes: &mut u32,
 ) -> [Size; 2304]
     requires { ⌜ Ready (now t) (known .of) × Sets (programOf (now t)) (known .synchronising) (known .reached) ⌝ }
-    requires { ⌜ Derived (programOf (now t)) (member (known .synchronising)) (member (known .reached)) (choiceOf (now choice)) (choiceOf (map valueOf from)) ⌝ }
-    ensures { λ r. ⌜ Judged (programOf (now (t .entry))) (member (known .synchronising)) (member (known .reached)) (choiceOf (now (choice .entry))) (choiceOf (map valueOf r)) (now (safe .exit)) ⌝ }
+    requires { ⌜ Derived (programOf (now t)) (member (known .synchronising)) (member (known .reached)) (choiceOf (now choice)) (at (map valueOf from)) ⌝ }
+    ensures { λ r. ⌜ Judged (programOf (now (t .entry))) (member (known .synchronising)) (member (known .reached)) (choiceOf (now (choice .entry))) (at (map valueOf r)) (now (safe .exit)) ⌝ }
 {
     let mut after = [0u32; 512];
     let mut before = [0u32; 512];

@@ -9,10 +9,10 @@ use Rattle.table.proofs.Laws.{well-formed}
 use Rattle.table.proofs.Ready.{few-nodes, nodes-are}
 use Rattle.sync.specs.Words.{member}
 use Rattle.sync.specs.Answer.{Sets}
+use Rattle.rules.specs.Choice.{at}
 use Rattle.sizes.specs.Answer.{SizesOf}
 use Rattle.rules.specs.Sums.{LargestAfter, LargestBefore}
 use Rattle.rules.specs.System.{size, Derived}
-use Rattle.rules.specs.Causes.{at}
 use Rattle.sizes.specs.Values.{valueAt, SolvedFor}
 use Rattle.rules.specs.Listed.{given}
 use Rattle.rules.specs.declared.Known.{Known}

@@ -11,9 +11,9 @@ use Rattle.table.proofs.Laws.{same-program}
 use Rattle.sync.specs.Synchronising.{Synchronising}
 use Rattle.sync.proofs.Laws.{synchronising-unique}
 use Rattle.size.specs.Size.{unbounded}
+use Rattle.rules.specs.Choice.{at}
 use Rattle.rules.specs.Rules.{entries, Meets, Least, LeastSizes}
 use Rattle.rules.specs.System.{Entry, Form, Rule, start, step-on, end, total-node, total-edge, target-of, formOf, gives, Der, none, rule, Derived}
-use Rattle.rules.specs.Causes.{at}
 use Rattle.sizes.proofs.Maps.{at-zeros}
 use Rattle.rules.proofs.Taking.{takes-larger}
 

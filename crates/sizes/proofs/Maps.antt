@@ -3,8 +3,8 @@ use Prim.Native.Nat.{ℕ, zero, suc}
 use mathlib.Core.Path.{_≡_, refl, sym, ap}
 use mathlib.Core.List.{List, [], _∷_, map}
 use lib.ListN.{getD, set, replicate, List·getD-map}
+use Rattle.rules.specs.Choice.{at}
 use Rattle.size.specs.Size.{valueOf}
-use Rattle.rules.specs.Causes.{at}
 use Rattle.size.specs.declared.Size.{Size}
 use Rattle.size.specs.declared.Size.the-variants.{Bytes}
 

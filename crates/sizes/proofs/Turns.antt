@@ -13,8 +13,9 @@ use borrow.Author.Tests.{lt-ltb, le-ltb}
 use Rattle.size.specs.Size.{unbounded, cap, valueOf}
 use Rattle.size.specs.declared.Size.{Size}
 use Rattle.size.specs.declared.Size.the-variants.{Bytes}
+use Rattle.rules.specs.Choice.{at}
 use Rattle.rules.specs.System.{Entry, size, along, Form, formOf, sumOf, gives, none, Derived, Solved}
-use Rattle.rules.specs.Causes.{Given, RuleOf, DerOf, offset, entryCount, entryAt, Ok, at, Chain, uncaused, Raised, kept, risen, leapt}
+use Rattle.rules.specs.Causes.{Given, RuleOf, DerOf, offset, entryCount, entryAt, Ok, Chain, uncaused, Raised, kept, risen, leapt}
 use Rattle.rules.specs.Listed.{others, Means, headOf, partOf, otherOf, baseOf, Says, Lists}
 use Rattle.sizes.specs.Values.{Values, valuesOf, sums, valueAt, sizePlace, sumPlace, picked, putSums, putSizes, room, roomOf, Long, Turning, Round, left}
 use Rattle.rules.specs.declared.sums.Sum.{Sum}

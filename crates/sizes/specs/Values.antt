@@ -7,8 +7,9 @@ use lib.Dec.{ltb}
 use lib.ListN.{length}
 use Rattle.size.specs.Size.{unbounded, valueOf}
 use Rattle.size.specs.declared.Size.{Size}
+use Rattle.rules.specs.Choice.{at}
 use Rattle.rules.specs.System.{Entry, size, along, Form, gives, Derived, Solved}
-use Rattle.rules.specs.Causes.{Given, Ok, at, entryCount}
+use Rattle.rules.specs.Causes.{Given, Ok, entryCount}
 use Rattle.rules.specs.Listed.{Says, Lists}
 use Rattle.rules.specs.declared.sums.Sum.{Sum}
 use Rattle.rules.specs.declared.sums.Sum.the-variants.{After, Before, Through}

@@ -7,7 +7,8 @@ ghost use mathlib.Core.Logic.{_⊎_};
 ghost use Prim.Native.Nat.{_<_};
 ghost use lib.ListN.{length};
 ghost use Rattle.size.specs.Size.{valueOf};
-ghost use Rattle.rules.specs.Causes.{at, Chain, Raised};
+ghost use Rattle.rules.specs.Choice.{at};
+ghost use Rattle.rules.specs.Causes.{Chain, Raised};
 
 pub(crate) fn wide(x: u16) -> usize
     ensures { λ r. ⌜ r ≡ x ⌝ }

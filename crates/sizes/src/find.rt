@@ -12,11 +12,11 @@ ghost use Rattle.table.specs.Program.{programOf};
 ghost use Rattle.sync.specs.Words.{member};
 ghost use Rattle.sync.specs.Answer.{Sets};
 ghost use Rattle.size.specs.Size.{valueOf};
+ghost use Rattle.rules.specs.Choice.{at};
 ghost use Rattle.rules.specs.Rules.{entries};
 ghost use Rattle.sizes.specs.Answer.{SizesOf, Written};
 ghost use Rattle.sizes.specs.Call.{Leaves};
 ghost use Rattle.rules.specs.System.{Derived};
-ghost use Rattle.rules.specs.Causes.{at};
 ghost use Rattle.sizes.specs.declared.Answer.the-variants.{Done};
 
 // "every entry starts from zero"

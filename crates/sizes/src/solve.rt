@@ -8,8 +8,8 @@ ghost use Prim.Native.Nat.{_+_, _<_, _≤_};
 ghost use lib.Dec.{ltb};
 ghost use lib.ListN.{length, replicate};
 ghost use Rattle.size.specs.Size.{valueOf, cap};
+ghost use Rattle.rules.specs.Choice.{at};
 ghost use Rattle.sizes.specs.Answer.{Written};
-ghost use Rattle.rules.specs.Causes.{at};
 ghost use Rattle.rules.specs.Listed.{headOf, partOf, otherOf, baseOf, Named};
 ghost use Rattle.sizes.specs.Values.{sizePlace, sumPlace, picked, Settles};
 

@@ -11,13 +11,14 @@ use Rattle.table.specs.Answer.{Ready}
 use Rattle.table.specs.Program.{Program, programOf}
 use Rattle.table.specs.declared.Counts.{Counts}
 use Rattle.table.proofs.Ready.{few-functions, few-nodes, functions-are, nodes-are}
+use Rattle.rules.specs.Choice.{at}
 use Rattle.rules.specs.Rules.{entries}
 use Rattle.sizes.specs.Call.{resultOf}
 use Rattle.sizes.specs.declared.Answer.{Answer}
 use Rattle.choice.specs.Call.{bestCall, bestResult, LeavesBoth}
 use Rattle.choice.proofs.Laws.{one-returned}
 use Rattle.text.specs.Listing.{fourFields, functionLine, spawnLine, joined, ofFunctionText, ofNodeText, listing}
-use Rattle.text.specs.Append.{Appended, at}
+use Rattle.text.specs.Append.{Appended}
 use Rattle.text.specs.Printed.{Printed}
 use Rattle.text.proofs.Appending.{appended-as, appended-then}
 

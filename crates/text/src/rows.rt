@@ -7,7 +7,8 @@ ghost use Prim.Native.Nat.{_+_, _*_, _<_, _≤_};
 ghost use lib.ListN.{length, getD};
 ghost use Rattle.table.specs.Answer.{Ready};
 ghost use Rattle.table.specs.Program.{programOf};
-ghost use Rattle.text.specs.Append.{Appended, at};
+ghost use Rattle.rules.specs.Choice.{at};
+ghost use Rattle.text.specs.Append.{Appended};
 ghost use Rattle.text.specs.Listing.{joined, functionLine, ofNodeText};
 
 pub(crate) fn put_functions(out: &mut [u8], from: usize, sizes: &[u32], functions: usize) -> usize

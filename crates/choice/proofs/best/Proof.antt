@@ -6,8 +6,9 @@ use lib.ListN.{length}
 use Rattle.table.specs.Program.{programOf}
 use Rattle.table.proofs.Ready.{few-functions, few-nodes, functions-are, nodes-are}
 use Rattle.size.specs.Size.{valueOf}
+use Rattle.rules.specs.Choice.{at}
 use Rattle.rules.specs.Rules.{entries}
-use Rattle.sizes.specs.Call.{choiceOf, resultOf}
+use Rattle.sizes.specs.Call.{resultOf}
 use Rattle.choice.specs.Call.{bestCall}
 use Rattle.choice.proofs.Calls.{admission}
 use borrow.Author.Needs.{needs}
@@ -72,7 +73,7 @@ returns-2 c =
     let q = admission (bestCall (a .t .now) (length (a .verdicts .now)) (length (a .sizes .now))) (d .result .answer) (d .result .known) (c .before .before .before .before .before .before .before .before .before .before .before .enum-told .given .1) (d .ensures .0) (d .ensures .1) in
     let x = c .before .before .before .before .before .before .before .choose .ensures in
     let e : 4 * (of .functions + of .nodes) ≡ entries (programOf (a .t .now)) = omega (arith, functions-are (a .t .now) of (q .ready), nodes-are (a .t .now) of (q .ready)) in
-    (q .done-is, record { returned = x .returned; written = x .written; sizes = (choiceOf (map valueOf (c .before .before .before .before .before .before .before .choose .result)), x .sizes-are, rw e at (c .before .before .write-sizes .ensures)) })
+    (q .done-is, record { returned = x .returned; written = x .written; sizes = (at (map valueOf (c .before .before .before .before .before .before .before .choose .result)), x .sizes-are, rw e at (c .before .before .write-sizes .ensures)) })
 
 pub best-spec : {M : Type 1} → statement M
 best-spec =

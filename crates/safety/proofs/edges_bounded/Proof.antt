@@ -3,7 +3,7 @@ use Prim.Native.Nat.{_-_, _≤_}
 use mathlib.Core.Path.{sym, ap, _∙_}
 use native.Mathlib.Omega.{arith}
 use Rattle.table.proofs.Ready.{few-nodes}
-use Rattle.sizes.specs.Call.{choiceOf}
+use Rattle.rules.specs.Choice.{at}
 use Rattle.safety.proofs.Testing.{tells-yes, tells-no, EdgesBelow, edges-none, edges-more, edges-all, edge-both}
 use Rattle.safety.proofs.edges_bounded.Statement.{statement}
 use Rattle.safety.proofs.edges_bounded.Tie as tie
@@ -42,7 +42,7 @@ returns : tie.Need-returns Inv-loop μ-loop
 returns c =
     let a = c .before .before .before .before .before .before .before .before .before .before .before .before .args in
     let L = c .before .before .before .before .before .before .before .before .loop in
-    tells-no (edge-both (a .t .now) (a .after .now) (a .before .now) (a .of) (c .before .before .before .before .before .before .before .before .before .before .before .before .pre .0) (L .e) (c .before .before .before .before .before .before .if1 .taken) (sym (ap (choiceOf (a .after .now)) (c .before .before .before .before .before .edge-from .ensures .0)) ∙ c .before .before .if2 .taken) (sym (ap (choiceOf (a .before .now)) (c .before .before .before .before .edge-to .ensures .0)) ∙ c .if3 .taken))
+    tells-no (edge-both (a .t .now) (a .after .now) (a .before .now) (a .of) (c .before .before .before .before .before .before .before .before .before .before .before .before .pre .0) (L .e) (c .before .before .before .before .before .before .if1 .taken) (sym (ap (at (a .after .now)) (c .before .before .before .before .before .edge-from .ensures .0)) ∙ c .before .before .if2 .taken) (sym (ap (at (a .before .now)) (c .before .before .before .before .edge-to .ensures .0)) ∙ c .if3 .taken))
 
 loop-less : tie.Need-loop-less Inv-loop μ-loop
 loop-less c = search needs
@@ -51,7 +51,7 @@ loop-again : tie.Need-loop-again Inv-loop μ-loop
 loop-again c =
     let a = c .before .before .before .before .before .before .before .before .before .before .before .before .args in
     let L = c .before .before .before .before .before .before .before .before .loop in
-    (omega (arith, c .before .before .before .before .before .before .if1 .taken), L .inv .1, edges-more (a .t .now) (a .after .now) (a .before .now) (L .inv .2) (λ x y. c .if3 .left (ap (choiceOf (a .before .now)) (c .before .before .before .before .edge-to .ensures .0) ∙ y)))
+    (omega (arith, c .before .before .before .before .before .before .if1 .taken), L .inv .1, edges-more (a .t .now) (a .after .now) (a .before .now) (L .inv .2) (λ x y. c .if3 .left (ap (at (a .before .now)) (c .before .before .before .before .edge-to .ensures .0) ∙ y)))
 
 loop-less-2 : tie.Need-loop-less-2 Inv-loop μ-loop
 loop-less-2 c = search needs
@@ -60,7 +60,7 @@ loop-again-2 : tie.Need-loop-again-2 Inv-loop μ-loop
 loop-again-2 c =
     let a = c .before .before .before .before .before .before .before .before .before .before .args in
     let L = c .before .before .before .before .before .before .loop in
-    (omega (arith, c .before .before .before .before .if1 .taken), L .inv .1, edges-more (a .t .now) (a .after .now) (a .before .now) (L .inv .2) (λ x y. c .if2 .left (ap (choiceOf (a .after .now)) (c .before .before .before .edge-from .ensures .0) ∙ x)))
+    (omega (arith, c .before .before .before .before .if1 .taken), L .inv .1, edges-more (a .t .now) (a .after .now) (a .before .now) (L .inv .2) (λ x y. c .if2 .left (ap (at (a .after .now)) (c .before .before .before .edge-from .ensures .0) ∙ x)))
 
 returns-2 : tie.Need-returns-2 Inv-loop μ-loop
 returns-2 c =

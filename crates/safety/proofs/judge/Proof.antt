@@ -4,6 +4,7 @@ use Rattle.table.proofs.Laws.{well-formed}
 use Rattle.table.proofs.Ready.{nodes-are}
 use Rattle.sync.specs.Words.{member}
 use Rattle.size.specs.Size.{valueOf}
+use Rattle.rules.specs.Choice.{at}
 use Rattle.sizes.specs.Call.{choiceOf}
 use Rattle.safety.proofs.Judging.{tells-safe, judged-safe, judged-unsafe}
 use borrow.Author.Needs.{needs}
@@ -37,7 +38,7 @@ returns c =
     let w = well-formed (a .t .now) (p .0 .accepted-is) in
     let set = member (a .known .synchronising) in
     let choice = choiceOf (a .choice .now) in
-    let sizes = choiceOf (map valueOf (found .result)) in
+    let sizes = at (map valueOf (found .result)) in
     let told = tells-safe g w set (p .1 .set) choice sizes _ _ (found .ensures .0) (a .known .of .nodes) (nodes-are (a .t .now) (a .known .of) (p .0)) (c .before .both-hold .ensures) in
     judged-safe g w set (p .1 .set) choice sizes _ _ (found .ensures .0) (found .ensures .1) told (c .if1 .taken)
 
@@ -50,7 +51,7 @@ returns-2 c =
     let w = well-formed (a .t .now) (p .0 .accepted-is) in
     let set = member (a .known .synchronising) in
     let choice = choiceOf (a .choice .now) in
-    let sizes = choiceOf (map valueOf (found .result)) in
+    let sizes = at (map valueOf (found .result)) in
     let told = tells-safe g w set (p .1 .set) choice sizes _ _ (found .ensures .0) (a .known .of .nodes) (nodes-are (a .t .now) (a .known .of) (p .0)) (c .before .both-hold .ensures) in
     judged-unsafe g w set (p .1 .set) choice sizes _ _ (found .ensures .0) (found .ensures .1) told (c .if1 .left)
 

@@ -6,7 +6,7 @@ use native.Mathlib.Omega.{arith}
 use Rattle.table.specs.Program.{programOf}
 use Rattle.table.proofs.Ready.{few-functions}
 use Rattle.size.specs.Size.{valueOf}
-use Rattle.sizes.specs.Call.{choiceOf}
+use Rattle.rules.specs.Choice.{at}
 use Rattle.sizes.proofs.Maps.{map-at}
 use Rattle.safety.specs.Test.{PostsBelow}
 use Rattle.safety.proofs.Testing.{tells-yes, tells-no, posts-none, posts-more}
@@ -14,13 +14,13 @@ use Rattle.safety.proofs.posts_zero.Statement.{statement}
 use Rattle.safety.proofs.posts_zero.Tie as tie
 
 abbrev Inv-loop : tie.InvT-loop
-Inv-loop t of sizes n₀ n = (n ≤ of .nodes) × (of .functions ≤ 64) × PostsBelow (programOf t) (choiceOf (map valueOf sizes)) n
+Inv-loop t of sizes n₀ n = (n ≤ of .nodes) × (of .functions ≤ 64) × PostsBelow (programOf t) (at (map valueOf sizes)) n
 
 abbrev μ-loop : tie.MeasureT-loop
 μ-loop t of sizes n₀ n = of .nodes - n
 
 loop-holds : tie.Need-loop-holds Inv-loop μ-loop
-loop-holds c = let a = c .before .args in (search needs, few-functions (a .t .now) (a .of) (c .before .pre), posts-none (programOf (a .t .now)) (choiceOf (map valueOf (a .t3))))
+loop-holds c = let a = c .before .args in (search needs, few-functions (a .t .now) (a .of) (c .before .pre), posts-none (programOf (a .t .now)) (at (map valueOf (a .t3))))
 
 add-n : tie.Need-add-n Inv-loop μ-loop
 add-n c = search needs
@@ -52,7 +52,7 @@ returns c =
     let L = c .before .before .before .before .before .before .before .before .loop in
     let x = 4 * c .before .before .before .target-of .result + 1 in
     let e : x ≡ 4 * programOf (a .t .now) .target (L .n) + 1 = omega (arith, c .before .before .before .target-of .ensures .0) in
-    tells-no (λ p. c .if3 .taken (c .before .number .ensures ∙ map-at (a .t3) x ∙ ap (choiceOf (map valueOf (a .t3))) e ∙ p .zero-below (L .n) (c .before .before .before .before .before .before .if1 .taken) (sym (c .before .before .before .before .before .sort .ensures) ∙ c .before .before .before .before .if2 .taken)))
+    tells-no (λ p. c .if3 .taken (c .before .number .ensures ∙ map-at (a .t3) x ∙ ap (at (map valueOf (a .t3))) e ∙ p .zero-below (L .n) (c .before .before .before .before .before .before .if1 .taken) (sym (c .before .before .before .before .before .sort .ensures) ∙ c .before .before .before .before .if2 .taken)))
 
 loop-less : tie.Need-loop-less Inv-loop μ-loop
 loop-less c = search needs
@@ -63,7 +63,7 @@ loop-again c =
     let L = c .before .before .before .before .before .before .before .before .loop in
     let x = 4 * c .before .before .before .target-of .result + 1 in
     let e : x ≡ 4 * programOf (a .t .now) .target (L .n) + 1 = omega (arith, c .before .before .before .target-of .ensures .0) in
-    (omega (arith, c .before .before .before .before .before .before .if1 .taken), L .inv .1, posts-more (programOf (a .t .now)) (choiceOf (map valueOf (a .t3))) (L .inv .2) (λ s. sym (ap (choiceOf (map valueOf (a .t3))) e) ∙ sym (map-at (a .t3) x) ∙ sym (c .before .number .ensures) ∙ c .if3 .left))
+    (omega (arith, c .before .before .before .before .before .before .if1 .taken), L .inv .1, posts-more (programOf (a .t .now)) (at (map valueOf (a .t3))) (L .inv .2) (λ s. sym (ap (at (map valueOf (a .t3))) e) ∙ sym (map-at (a .t3) x) ∙ sym (c .before .number .ensures) ∙ c .if3 .left))
 
 loop-less-2 : tie.Need-loop-less-2 Inv-loop μ-loop
 loop-less-2 c = search needs
@@ -72,7 +72,7 @@ loop-again-2 : tie.Need-loop-again-2 Inv-loop μ-loop
 loop-again-2 c =
     let a = c .before .before .before .before .before .before .args in
     let L = c .before .before .before .before .loop in
-    (omega (arith, c .before .before .if1 .taken), L .inv .1, posts-more (programOf (a .t .now)) (choiceOf (map valueOf (a .t3))) (L .inv .2) (λ s. absurd (c .if2 .left (c .before .sort .ensures ∙ s))))
+    (omega (arith, c .before .before .if1 .taken), L .inv .1, posts-more (programOf (a .t .now)) (at (map valueOf (a .t3))) (L .inv .2) (λ s. absurd (c .if2 .left (c .before .sort .ensures ∙ s))))
 
 returns-2 : tie.Need-returns-2 Inv-loop μ-loop
 returns-2 c =

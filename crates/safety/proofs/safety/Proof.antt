@@ -8,6 +8,7 @@ use Rattle.table.proofs.Laws.{well-formed}
 use Rattle.table.proofs.Ready.{nodes-are}
 use Rattle.sync.specs.Words.{member}
 use Rattle.size.specs.Size.{valueOf}
+use Rattle.rules.specs.Choice.{at}
 use Rattle.sizes.specs.Call.{choiceOf, resultOf}
 use Rattle.sizes.specs.Known.{call}
 use Rattle.sizes.proofs.Calls.{admission}
@@ -65,7 +66,7 @@ returns-2 c =
     let d = c .before .before .before .before .before .before .before .before .before .before .before .before .before .before .before .admit in
     let known = d .result .known in
     let q = admission (call (a .t .now) (a .choice .now) (length (a .out .now))) (d .result .answer) known (c .before .before .before .before .before .before .before .before .before .before .before .before .enum-told .given .1) (d .ensures .0) (d .ensures .1) in
-    let told = tells-safe (programOf (a .t .now)) (well-formed (a .t .now) (q .ready .accepted-is)) (member (known .synchronising)) (q .sets .set) (choiceOf (a .choice .now)) (choiceOf (map valueOf (c .before .before .before .before .before .before .before .before .put .result))) _ _ (c .before .before .before .before .before .before .before .before .put .ensures .0) (known .of .nodes) (nodes-are (a .t .now) (known .of) (q .ready)) (c .before .both-hold .ensures) in
+    let told = tells-safe (programOf (a .t .now)) (well-formed (a .t .now) (q .ready .accepted-is)) (member (known .synchronising)) (q .sets .set) (choiceOf (a .choice .now)) (at (map valueOf (c .before .before .before .before .before .before .before .before .put .result))) _ _ (c .before .before .before .before .before .before .before .before .put .ensures .0) (known .of .nodes) (nodes-are (a .t .now) (known .of) (q .ready)) (c .before .both-hold .ensures) in
     ((q .done-is, told .yes-if (c .if1 .taken)), c .before .before .before .before .before .before .before .before .put .ensures .1)
 
 same-length-2 : tie.Need-same-length-2
@@ -77,7 +78,7 @@ returns-3 c =
     let d = c .before .before .before .before .before .before .before .before .before .before .before .before .before .before .before .admit in
     let known = d .result .known in
     let q = admission (call (a .t .now) (a .choice .now) (length (a .out .now))) (d .result .answer) known (c .before .before .before .before .before .before .before .before .before .before .before .before .enum-told .given .1) (d .ensures .0) (d .ensures .1) in
-    let told = tells-safe (programOf (a .t .now)) (well-formed (a .t .now) (q .ready .accepted-is)) (member (known .synchronising)) (q .sets .set) (choiceOf (a .choice .now)) (choiceOf (map valueOf (c .before .before .before .before .before .before .before .before .put .result))) _ _ (c .before .before .before .before .before .before .before .before .put .ensures .0) (known .of .nodes) (nodes-are (a .t .now) (known .of) (q .ready)) (c .before .both-hold .ensures) in
+    let told = tells-safe (programOf (a .t .now)) (well-formed (a .t .now) (q .ready .accepted-is)) (member (known .synchronising)) (q .sets .set) (choiceOf (a .choice .now)) (at (map valueOf (c .before .before .before .before .before .before .before .before .put .result))) _ _ (c .before .before .before .before .before .before .before .before .put .ensures .0) (known .of .nodes) (nodes-are (a .t .now) (known .of) (q .ready)) (c .before .both-hold .ensures) in
     ((q .done-is, λ safe. not-both (c .before .both-hold .result) (told .only-if safe) (c .if1 .left)), c .before .before .before .before .before .before .before .before .put .ensures .1)
 
 pub safety-spec : {M : Type 1} → statement M

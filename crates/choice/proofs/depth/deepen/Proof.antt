@@ -7,20 +7,20 @@ use borrow.Author.Needs.{needs}
 use Rattle.table.specs.Program.{programOf}
 use Rattle.table.proofs.Laws.{well-formed}
 use Rattle.table.proofs.Ready.{few-functions, functions-are, nodes-are}
-use Rattle.sizes.specs.Call.{choiceOf}
+use Rattle.rules.specs.Choice.{at}
 use Rattle.choice.specs.Levels.{Deepened}
 use Rattle.choice.proofs.Levels.{deepened-none, deepened-pass, deepened-more}
 use Rattle.choice.proofs.depth.deepen.Statement.{statement}
 use Rattle.choice.proofs.depth.deepen.Tie as tie
 
 abbrev Inv-loop : tie.InvT-loop
-Inv-loop t of depth₀ level grew₀ n₀ depth grew n = (n ≤ of .nodes) × (of .functions ≤ 64) × (length depth ≡ length depth₀) × Deepened (programOf t) level n (choiceOf depth₀) (choiceOf depth) grew
+Inv-loop t of depth₀ level grew₀ n₀ depth grew n = (n ≤ of .nodes) × (of .functions ≤ 64) × (length depth ≡ length depth₀) × Deepened (programOf t) level n (at depth₀) (at depth) grew
 
 abbrev μ-loop : tie.MeasureT-loop
 μ-loop t of depth₀ level grew₀ n₀ depth grew n = of .nodes - n
 
 loop-holds : tie.Need-loop-holds Inv-loop μ-loop
-loop-holds c = let a = c .before .before .args in (search needs, few-functions (a .t .now) (a .of) (c .before .before .pre .0 .0), refl, deepened-none (programOf (a .t .now)) (a .level) (choiceOf (a .depth .now)))
+loop-holds c = let a = c .before .before .args in (search needs, few-functions (a .t .now) (a .of) (c .before .before .pre .0 .0), refl, deepened-none (programOf (a .t .now)) (a .level) (at (a .depth .now)))
 
 add-n : tie.Need-add-n Inv-loop μ-loop
 add-n c = search needs
@@ -52,7 +52,7 @@ loop-again c =
       search needs,
       L .inv .1,
       length-set (L .depth) (programOf (a .t .now) .target (L .n)) (a .level + 1) ∙ L .inv .2,
-      deepened-more (programOf (a .t .now)) (a .level) (L .n) (choiceOf (a .depth .now)) (p .0 .2) (p .1) (well-formed (a .t .now) (p .0 .0 .accepted-is)) (omega (arith, nodes-are (a .t .now) (a .of) (p .0 .0))) (L .depth) (L .grew) (L .inv .3) (c .before .before .leads-down .result) (c .before .before .leads-down .ensures)
+      deepened-more (programOf (a .t .now)) (a .level) (L .n) (at (a .depth .now)) (p .0 .2) (p .1) (well-formed (a .t .now) (p .0 .0 .accepted-is)) (omega (arith, nodes-are (a .t .now) (a .of) (p .0 .0))) (L .depth) (L .grew) (L .inv .3) (c .before .before .leads-down .result) (c .before .before .leads-down .ensures)
           (omega (arith, functions-are (a .t .now) (a .of) (p .0 .0)))
           (c .before .if2 .taken),
     )
@@ -68,7 +68,7 @@ loop-again-2 c =
       search needs,
       L .inv .1,
       L .inv .2,
-      deepened-pass (programOf (a .t .now)) (a .level) (L .n) (choiceOf (a .depth .now)) (p .0 .2) (p .1) (well-formed (a .t .now) (p .0 .0 .accepted-is)) (omega (arith, nodes-are (a .t .now) (a .of) (p .0 .0))) (L .depth) (L .grew) (L .inv .3) (c .before .leads-down .result) (c .before .leads-down .ensures)
+      deepened-pass (programOf (a .t .now)) (a .level) (L .n) (at (a .depth .now)) (p .0 .2) (p .1) (well-formed (a .t .now) (p .0 .0 .accepted-is)) (omega (arith, nodes-are (a .t .now) (a .of) (p .0 .0))) (L .depth) (L .grew) (L .inv .3) (c .before .leads-down .result) (c .before .leads-down .ensures)
           (c .if2 .left),
     )
 

@@ -8,17 +8,17 @@ use borrow.Author.Needs.{needs}
 use Rattle.table.specs.Program.{programOf}
 use Rattle.table.proofs.Laws.{well-formed}
 use Rattle.table.proofs.Ready.{functions-are, nodes-are}
-use Rattle.sizes.specs.Call.{choiceOf}
+use Rattle.rules.specs.Choice.{at}
 use Rattle.choice.specs.Levels.{unfound}
 use Rattle.choice.proofs.Levels.{Sounding, sounding-first, sounding-next}
 use Rattle.choice.proofs.depth.sound.Statement.{statement}
 use Rattle.choice.proofs.depth.sound.Tie as tie
 
 abbrev Inv-loop : tie.InvT-loop
-Inv-loop t of depth₀ level₀ grew₀ depth level grew = (length depth ≡ length depth₀) × Sounding (programOf t) level (choiceOf depth) grew
+Inv-loop t of depth₀ level₀ grew₀ depth level grew = (length depth ≡ length depth₀) × Sounding (programOf t) level (at depth) grew
 
 abbrev μ-loop : tie.MeasureT-loop
-μ-loop t of depth₀ level₀ grew₀ depth level grew = unfound (programOf t) (choiceOf depth) + cond grew 1 0
+μ-loop t of depth₀ level₀ grew₀ depth level grew = unfound (programOf t) (at depth) + cond grew 1 0
 
 start-requires : tie.Need-start-requires Inv-loop μ-loop
 start-requires c κs = search needs
@@ -46,7 +46,7 @@ loop-again c =
     let a = c .before .before .before .before .before .before .before .before .before .before .before .before .args in
     let r = c .before .before .before .before .before .before .before .before .before .before .before .before .pre .0 in
     let L = c .before .before .before .before .before .loop in
-    (c .before .before .deepen .ensures .0 ∙ L .inv .0, sounding-next (programOf (a .t .now)) (L .level) (choiceOf (L .depth)) _ (c .before .before .deepen .result) (well-formed (a .t .now) (r .accepted-is)) (rw (c .before .before .before .before .loop-test .taken) at (L .inv .1)) (rw (nodes-are (a .t .now) (a .of) r) at (c .before .before .deepen .ensures .1)))
+    (c .before .before .deepen .ensures .0 ∙ L .inv .0, sounding-next (programOf (a .t .now)) (L .level) (at (L .depth)) _ (c .before .before .deepen .result) (well-formed (a .t .now) (r .accepted-is)) (rw (c .before .before .before .before .loop-test .taken) at (L .inv .1)) (rw (nodes-are (a .t .now) (a .of) r) at (c .before .before .deepen .ensures .1)))
 
 same-length : tie.Need-same-length Inv-loop μ-loop
 same-length c = c .before .loop .inv .0 ∙ c .before .before .before .before .start .ensures .0

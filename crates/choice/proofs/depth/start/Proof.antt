@@ -8,14 +8,14 @@ use lib.ListN.{length, set}
 use borrow.Author.Needs.{needs}
 use Rattle.table.specs.Program.{programOf}
 use Rattle.table.proofs.Ready.{few-functions}
-use Rattle.sizes.specs.Call.{choiceOf}
+use Rattle.rules.specs.Choice.{at}
 use Rattle.choice.specs.Levels.{noDepth}
 use Rattle.choice.proofs.Levels.{startDepth, started-more}
 use Rattle.choice.proofs.depth.start.Statement.{statement}
 use Rattle.choice.proofs.depth.start.Tie as tie
 
 abbrev Inv-loop : tie.InvT-loop
-Inv-loop t of depth₀ f₀ depth f = (f ≤ of .functions) × (of .functions ≤ 64) × (length depth ≡ length depth₀) × ((k : ℕ) → k < f → choiceOf depth k ≡ startDepth (programOf t) k)
+Inv-loop t of depth₀ f₀ depth f = (f ≤ of .functions) × (of .functions ≤ 64) × (length depth ≡ length depth₀) × ((k : ℕ) → k < f → at depth k ≡ startDepth (programOf t) k)
 
 abbrev μ-loop : tie.MeasureT-loop
 μ-loop t of depth₀ f₀ depth f = of .functions - f

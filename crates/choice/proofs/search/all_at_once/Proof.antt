@@ -1,13 +1,13 @@
 use mathlib.Core.Path.{refl}
 use native.Mathlib.Omega.{arith}
 use Rattle.table.proofs.Ready.{nodes-are, few-nodes}
+use Rattle.rules.specs.Choice.{at}
 use Rattle.choice.specs.Walk.{all-kept}
 use Rattle.choice.proofs.Walking.{derived-all, tried-all}
 use mathlib.Core.List.{map}
 use Rattle.table.specs.Program.{programOf}
 use Rattle.sync.specs.Words.{member}
 use Rattle.size.specs.Size.{valueOf}
-use Rattle.sizes.specs.Call.{choiceOf}
 use borrow.Author.Needs.{needs}
 use Rattle.choice.proofs.search.all_at_once.Statement.{statement}
 use Rattle.choice.proofs.search.all_at_once.Tie as tie
@@ -28,7 +28,7 @@ judge-requires : tie.Need-judge-requires
 judge-requires c κs =
     let a = c .before .before .before .before .before .before .before .before .before .args in
     let p = c .before .before .before .before .before .before .before .before .before .pre in
-    (p .0, derived-all (programOf (a .t .now)) (member (a .known .synchronising)) (member (a .known .reached)) (a .k) (a .known .of .nodes) (a .verdicts .now) _ (nodes-are (a .t .now) (a .known .of) (p .0 .0)) (p .1 .0 .0) (c .before .before .before .before .raise-all .ensures) (choiceOf (map valueOf (a .from))) (p .1 .1))
+    (p .0, derived-all (programOf (a .t .now)) (member (a .known .synchronising)) (member (a .known .reached)) (a .k) (a .known .of .nodes) (a .verdicts .now) _ (nodes-are (a .t .now) (a .known .of) (p .0 .0)) (p .1 .0 .0) (c .before .before .before .before .raise-all .ensures) (at (map valueOf (a .from))) (p .1 .1))
 
 slice-aggregate-copy : tie.Need-slice-aggregate-copy
 slice-aggregate-copy c = search needs
@@ -46,7 +46,7 @@ returns : tie.Need-returns
 returns c =
     let a = c .before .before .before .before .before .before .before .before .before .before .before .before .before .before .before .before .before .args in
     let p = c .before .before .before .before .before .before .before .before .before .before .before .before .before .before .before .before .before .pre in
-    tried-all (programOf (a .t .now)) (member (a .known .synchronising)) (member (a .known .reached)) (a .k) (a .known .of .nodes) (a .verdicts .now) _ (nodes-are (a .t .now) (a .known .of) (p .0 .0)) (p .1 .0 .0) (c .before .before .before .before .before .before .before .before .before .before .before .before .raise-all .ensures) (choiceOf (map valueOf (c .before .before .before .before .before .before .before .judge .result))) _ (c .before .before .before .before .before .before .before .judge .ensures) (c .before .before .copy .ensures) (c .before .before .before .before .before .if1 .taken)
+    tried-all (programOf (a .t .now)) (member (a .known .synchronising)) (member (a .known .reached)) (a .k) (a .known .of .nodes) (a .verdicts .now) _ (nodes-are (a .t .now) (a .known .of) (p .0 .0)) (p .1 .0 .0) (c .before .before .before .before .before .before .before .before .before .before .before .before .raise-all .ensures) (at (map valueOf (c .before .before .before .before .before .before .before .judge .result))) _ (c .before .before .before .before .before .before .before .judge .ensures) (c .before .before .copy .ensures) (c .before .before .before .before .before .if1 .taken)
 
 same-length-2 : tie.Need-same-length-2
 same-length-2 c = search needs

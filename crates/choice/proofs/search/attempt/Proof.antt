@@ -2,7 +2,7 @@ use mathlib.Core.List.{map}
 use Rattle.table.specs.Program.{programOf}
 use Rattle.sync.specs.Words.{member}
 use Rattle.size.specs.Size.{valueOf}
-use Rattle.sizes.specs.Call.{choiceOf}
+use Rattle.rules.specs.Choice.{at}
 use Rattle.choice.proofs.Walking.{derived-raised, tried-raised, tried-kept}
 use borrow.Author.Needs.{needs}
 use Rattle.choice.proofs.search.attempt.Statement.{statement}
@@ -18,7 +18,7 @@ judge-requires : tie.Need-judge-requires
 judge-requires c κs =
     let a = c .before .before .before .before .before .before .args in
     let p = c .before .before .before .before .before .before .pre in
-    (p .0, derived-raised (programOf (a .t .now)) (member (a .known .synchronising)) (member (a .known .reached)) (a .n) (a .k) (a .verdicts .now) (choiceOf (map valueOf (a .from))) (p .1 .0 .0) (p .1 .0 .1) (p .1 .1))
+    (p .0, derived-raised (programOf (a .t .now)) (member (a .known .synchronising)) (member (a .known .reached)) (a .n) (a .k) (a .verdicts .now) (at (map valueOf (a .from))) (p .1 .0 .0) (p .1 .0 .1) (p .1 .1))
 
 same-length : tie.Need-same-length
 same-length c = search needs
@@ -27,7 +27,7 @@ returns : tie.Need-returns
 returns c =
     let a = c .before .before .before .before .before .before .before .before .args in
     let p = c .before .before .before .before .before .before .before .before .pre in
-    tried-raised (programOf (a .t .now)) (member (a .known .synchronising)) (member (a .known .reached)) (a .n) (a .k) (a .verdicts .now) (choiceOf (map valueOf (c .before .judge .result))) _ (c .before .judge .ensures) (c .if1 .taken)
+    tried-raised (programOf (a .t .now)) (member (a .known .synchronising)) (member (a .known .reached)) (a .n) (a .k) (a .verdicts .now) (at (map valueOf (c .before .judge .result))) _ (c .before .judge .ensures) (c .if1 .taken)
 
 slice-write-verdicts-2 : tie.Need-slice-write-verdicts-2
 slice-write-verdicts-2 c = search needs
@@ -39,7 +39,7 @@ returns-2 : tie.Need-returns-2
 returns-2 c =
     let a = c .before .before .before .before .before .before .before .before .args in
     let p = c .before .before .before .before .before .before .before .before .pre in
-    tried-kept (programOf (a .t .now)) (member (a .known .synchronising)) (member (a .known .reached)) (a .n) (a .k) (a .verdicts .now) (choiceOf (map valueOf (c .before .judge .result))) _ (c .before .judge .ensures) (c .if1 .left) (choiceOf (map valueOf (a .from))) (p .1 .1)
+    tried-kept (programOf (a .t .now)) (member (a .known .synchronising)) (member (a .known .reached)) (a .n) (a .k) (a .verdicts .now) (at (map valueOf (c .before .judge .result))) _ (c .before .judge .ensures) (c .if1 .left) (at (map valueOf (a .from))) (p .1 .1)
 
 pub attempt-spec : {M : Type 1} → statement M
 attempt-spec =

@@ -4,7 +4,7 @@ use native.Mathlib.Omega.{arith}
 use Rattle.table.specs.Program.{programOf}
 use Rattle.table.proofs.Ready.{few-nodes}
 use Rattle.size.specs.Size.{valueOf}
-use Rattle.sizes.specs.Call.{choiceOf}
+use Rattle.rules.specs.Choice.{at}
 use Rattle.choice.proofs.Walking.{others-stay}
 use Rattle.choice.proofs.Winning.{unmerged-is, unmerged-ready, chosen}
 use borrow.Author.Needs.{needs}
@@ -33,7 +33,7 @@ walk-requires c κs =
     let o = c .before .before .before .before .before .before .before .before .before .before .before .before .in-order .ensures in
     let u = c .before .before .before .before .before .before .before .before .before .unmerge .ensures in
     let s = c .before .before .before .before .sizes-of .ensures in
-    (p .0, ((omega (arith, o .0 .0, o .0 .1, few-nodes (a .t .now) (a .known .of) (p .0 .0)), o .1 .0), ((omega arith, omega (arith, u .long, p .1), unmerged-ready (a .t .now) (a .known .of) (p .0 .0) u (choiceOf (map valueOf (c .before .before .before .before .sizes-of .result))) (s .sizes-are), unmerged-is (a .t .now) (a .known .of) (p .0 .0) u .others), s)))
+    (p .0, ((omega (arith, o .0 .0, o .0 .1, few-nodes (a .t .now) (a .known .of) (p .0 .0)), o .1 .0), ((omega arith, omega (arith, u .long, p .1), unmerged-ready (a .t .now) (a .known .of) (p .0 .0) u (at (map valueOf (c .before .before .before .before .sizes-of .result))) (s .sizes-are), unmerged-is (a .t .now) (a .known .of) (p .0 .0) u .others), s)))
 
 slice-aggregate-walk-2 : tie.Need-slice-aggregate-walk-2
 slice-aggregate-walk-2 c = search needs
@@ -56,7 +56,7 @@ returns c =
     let p = c .before .before .before .before .before .before .before .before .before .before .before .before .before .before .before .before .before .before .before .before .before .before .before .before .before .before .pre in
     let one = c .before .before .before .before .before .before .before .before .before .walk .ensures in
     let two = c .before .before .walk2 .ensures in
-    chosen (a .t .now) (a .known .of) (p .0 .0) (c .before .before .before .before .before .before .before .before .before .before .before .before .before .before .before .before .before .before .before .before .before .before .in-order .result) _ (c .before .before .before .before .before .before .before .before .before .before .before .before .before .before .before .before .before .before .before .before .before .before .in-order .ensures .1 .0) (c .before .before .before .before .before .before .before .before .before .before .before .before .before .before .before .before .before .before .before .unmerge .ensures) (one .1 .0) (two .1 .0) (one .0) (two .0) (choiceOf (map valueOf (c .before .before .walk2 .result))) (two .1 .1 .sizes-are)
+    chosen (a .t .now) (a .known .of) (p .0 .0) (c .before .before .before .before .before .before .before .before .before .before .before .before .before .before .before .before .before .before .before .before .before .before .in-order .result) _ (c .before .before .before .before .before .before .before .before .before .before .before .before .before .before .before .before .before .before .before .before .before .before .in-order .ensures .1 .0) (c .before .before .before .before .before .before .before .before .before .before .before .before .before .before .before .before .before .before .before .unmerge .ensures) (one .1 .0) (two .1 .0) (one .0) (two .0) (at (map valueOf (c .before .before .walk2 .result))) (two .1 .1 .sizes-are)
 
 pub choose-spec : {M : Type 1} → statement M
 choose-spec =

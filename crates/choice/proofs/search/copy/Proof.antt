@@ -3,6 +3,7 @@ use mathlib.Core.Path.{refl}
 use Prim.Native.Nat.{_-_, _≤_}
 use native.Mathlib.Omega.{arith}
 use lib.ListN.{length}
+use Rattle.rules.specs.Choice.{at}
 use Rattle.sizes.specs.Answer.{Written}
 use Rattle.sizes.specs.Call.{choiceOf}
 use Rattle.sizes.proofs.Writing.{written-none, written-next, written-last}
@@ -11,13 +12,13 @@ use Rattle.choice.proofs.search.copy.Statement.{statement}
 use Rattle.choice.proofs.search.copy.Tie as tie
 
 abbrev Inv-loop : tie.InvT-loop
-Inv-loop count from to₀ i₀ to i = (i ≤ count) × (count ≤ length from) × (count ≤ length to₀) × Written i (choiceOf from) to₀ to
+Inv-loop count from to₀ i₀ to i = (i ≤ count) × (count ≤ length from) × (count ≤ length to₀) × Written i (at from) to₀ to
 
 abbrev μ-loop : tie.MeasureT-loop
 μ-loop count from to₀ i₀ to i = count - i
 
 loop-holds : tie.Need-loop-holds Inv-loop μ-loop
-loop-holds c = let a = c .args in (search needs, search needs, search needs, written-none (choiceOf (a .from .now)) (a .to .now))
+loop-holds c = let a = c .args in (search needs, search needs, search needs, written-none (at (a .from .now)) (a .to .now))
 
 shared-slice-read-to : tie.Need-shared-slice-read-to Inv-loop μ-loop
 shared-slice-read-to c = search needs
@@ -35,7 +36,7 @@ loop-again : tie.Need-loop-again Inv-loop μ-loop
 loop-again c =
     let a = c .before .before .before .args in
     let L = c .before .before .loop in
-    (omega (arith, c .before .loop-test .taken), L .inv .1, L .inv .2, written-next (choiceOf (a .from .now)) (L .i) (choiceOf (a .from .now) (L .i)) (L .inv .3) (omega (arith, c .before .loop-test .taken, L .inv .2)) refl)
+    (omega (arith, c .before .loop-test .taken), L .inv .1, L .inv .2, written-next (at (a .from .now)) (L .i) (at (a .from .now) (L .i)) (L .inv .3) (omega (arith, c .before .loop-test .taken, L .inv .2)) refl)
 
 same-length : tie.Need-same-length Inv-loop μ-loop
 same-length c = search needs

@@ -4,6 +4,7 @@ use mathlib.Core.Path.{_≡_}
 use native.Mathlib.Omega.{arith}
 use Rattle.table.proofs.Laws.{well-formed}
 use Rattle.table.proofs.Ready.{nodes-are}
+use Rattle.rules.specs.Choice.{at}
 use Rattle.sizes.specs.Answer.{Written}
 use Rattle.choice.specs.Walk.{Sized, Walked}
 use Rattle.choice.proofs.Walking.{walked-none, walked-past, walked-tried, order-below, written-own, written-tried}
@@ -18,7 +19,7 @@ use Rattle.choice.proofs.search.one_by_one.Tie as tie
 
 abbrev Inv-loop : tie.InvT-loop
 Inv-loop t known order count k verdicts₀ trials₀ passes₀ sizes₀ i₀ verdicts trials passes sizes i =
-    (i ≤ count) × Walked (programOf t) k i (choiceOf order) (choiceOf verdicts₀) (choiceOf verdicts) × Written (known .of .nodes) (choiceOf verdicts) verdicts₀ verdicts × Sized (programOf t) (member (known .synchronising)) (member (known .reached)) (choiceOf verdicts) (choiceOf (map valueOf sizes))
+    (i ≤ count) × Walked (programOf t) k i (at order) (choiceOf verdicts₀) (choiceOf verdicts) × Written (known .of .nodes) (choiceOf verdicts) verdicts₀ verdicts × Sized (programOf t) (member (known .synchronising)) (member (known .reached)) (choiceOf verdicts) (at (map valueOf sizes))
 
 abbrev μ-loop : tie.MeasureT-loop
 μ-loop t known order count k verdicts₀ trials₀ passes₀ sizes₀ i₀ verdicts trials passes sizes i = count - i
@@ -27,7 +28,7 @@ loop-holds : tie.Need-loop-holds Inv-loop μ-loop
 loop-holds c =
     let a = c .before .before .before .args in
     let p = c .before .before .before .pre in
-    (search needs, walked-none (programOf (a .t .now)) (a .k) (choiceOf (a .order .now)) (choiceOf (a .verdicts .now)) (p .1 .1 .0 .2), written-own (a .known .of .nodes) (a .verdicts .now), p .1 .1 .1)
+    (search needs, walked-none (programOf (a .t .now)) (a .k) (at (a .order .now)) (choiceOf (a .verdicts .now)) (p .1 .1 .0 .2), written-own (a .known .of .nodes) (a .verdicts .now), p .1 .1 .1)
 
 mul-n : tie.Need-mul-n Inv-loop μ-loop
 mul-n c = search needs
@@ -43,7 +44,7 @@ slice-read-if1 c =
     let a = c .before .before .before .before .before .before .before .args in
     let p = c .before .before .before .before .before .before .before .pre in
     let L = c .before .before .before .loop in
-    omega (arith, p .1 .1 .0 .1, L .inv .2 .long, order-below (a .t .now) (a .known .of) (p .0 .0) (a .count) (choiceOf (a .order .now)) (p .1 .0 .1) (L .i) (c .before .before .loop-test .taken))
+    omega (arith, p .1 .1 .0 .1, L .inv .2 .long, order-below (a .t .now) (a .known .of) (p .0 .0) (a .count) (at (a .order .now)) (p .1 .0 .1) (L .i) (c .before .before .loop-test .taken))
 
 sub-if1 : tie.Need-sub-if1 Inv-loop μ-loop
 sub-if1 c = search needs
@@ -53,7 +54,7 @@ attempt-requires c κs =
     let a = c .before .before .before .before .before .before .before .before .before .before .args in
     let p = c .before .before .before .before .before .before .before .before .before .before .pre in
     let L = c .before .before .before .before .before .before .loop in
-    (p .0, ((omega (arith, p .1 .1 .0 .1, L .inv .2 .long, order-below (a .t .now) (a .known .of) (p .0 .0) (a .count) (choiceOf (a .order .now)) (p .1 .0 .1) (L .i) (c .before .before .before .before .before .loop-test .taken)), omega (arith, c .before .before .if1 .taken)), L .inv .3))
+    (p .0, ((omega (arith, p .1 .1 .0 .1, L .inv .2 .long, order-below (a .t .now) (a .known .of) (p .0 .0) (a .count) (at (a .order .now)) (p .1 .0 .1) (L .i) (c .before .before .before .before .before .loop-test .taken)), omega (arith, c .before .before .if1 .taken)), L .inv .3))
 
 wrapping-add-u32-requires : tie.Need-wrapping-add-u32-requires Inv-loop μ-loop
 wrapping-add-u32-requires c κs = search needs
@@ -69,9 +70,9 @@ loop-again c =
     let a = c .before .before .before .before .before .before .before .before .before .before .before .before .before .before .before .before .before .args in
     let p = c .before .before .before .before .before .before .before .before .before .before .before .before .before .before .before .before .before .pre in
     let L = c .before .before .before .before .before .before .before .before .before .before .before .before .before .loop in
-    let b = order-below (a .t .now) (a .known .of) (p .0 .0) (a .count) (choiceOf (a .order .now)) (p .1 .0 .1) (L .i) (c .before .before .before .before .before .before .before .before .before .before .before .before .loop-test .taken) in
+    let b = order-below (a .t .now) (a .known .of) (p .0 .0) (a .count) (at (a .order .now)) (p .1 .0 .1) (L .i) (c .before .before .before .before .before .before .before .before .before .before .before .before .loop-test .taken) in
     let x = c .before .before .before .before .before .before .attempt .ensures .0 in
-    (omega (arith, c .before .before .before .before .before .before .before .before .before .before .before .before .loop-test .taken), walked-tried (programOf (a .t .now)) (well-formed (a .t .now) (p .0 .0 .accepted-is)) (a .k) (choiceOf (a .order .now)) (choiceOf (a .verdicts .now)) (L .i) (L .verdicts) (omega (arith, b, nodes-are (a .t .now) (a .known .of) (p .0 .0))) (omega (arith, b, p .1 .1 .0 .1, L .inv .2 .long)) _ (L .inv .1) (omega (arith, c .before .before .before .before .before .before .before .before .before .if1 .taken, p .1 .1 .0 .0)) x, written-tried (programOf (a .t .now)) _ (a .k) (a .known .of .nodes) (a .verdicts .now) (L .verdicts) _ b x (L .inv .2), c .before .before .before .before .before .before .attempt .ensures .1)
+    (omega (arith, c .before .before .before .before .before .before .before .before .before .before .before .before .loop-test .taken), walked-tried (programOf (a .t .now)) (well-formed (a .t .now) (p .0 .0 .accepted-is)) (a .k) (at (a .order .now)) (choiceOf (a .verdicts .now)) (L .i) (L .verdicts) (omega (arith, b, nodes-are (a .t .now) (a .known .of) (p .0 .0))) (omega (arith, b, p .1 .1 .0 .1, L .inv .2 .long)) _ (L .inv .1) (omega (arith, c .before .before .before .before .before .before .before .before .before .if1 .taken, p .1 .1 .0 .0)) x, written-tried (programOf (a .t .now)) _ (a .k) (a .known .of .nodes) (a .verdicts .now) (L .verdicts) _ b x (L .inv .2), c .before .before .before .before .before .before .attempt .ensures .1)
 
 loop-less-2 : tie.Need-loop-less-2 Inv-loop μ-loop
 loop-less-2 c = search needs
@@ -81,8 +82,8 @@ loop-again-2 c =
     let a = c .before .before .before .before .before .before .before .before .args in
     let p = c .before .before .before .before .before .before .before .before .pre in
     let L = c .before .before .before .before .loop in
-    let b = order-below (a .t .now) (a .known .of) (p .0 .0) (a .count) (choiceOf (a .order .now)) (p .1 .0 .1) (L .i) (c .before .before .before .loop-test .taken) in
-    (omega (arith, c .before .before .before .loop-test .taken), walked-past (programOf (a .t .now)) (a .k) (choiceOf (a .order .now)) (choiceOf (a .verdicts .now)) (L .i) (choiceOf (L .verdicts)) (omega (arith, b, nodes-are (a .t .now) (a .known .of) (p .0 .0))) (L .inv .1) (λ e. c .if1 .left (omega (arith, e))), L .inv .2, L .inv .3)
+    let b = order-below (a .t .now) (a .known .of) (p .0 .0) (a .count) (at (a .order .now)) (p .1 .0 .1) (L .i) (c .before .before .before .loop-test .taken) in
+    (omega (arith, c .before .before .before .loop-test .taken), walked-past (programOf (a .t .now)) (a .k) (at (a .order .now)) (choiceOf (a .verdicts .now)) (L .i) (choiceOf (L .verdicts)) (omega (arith, b, nodes-are (a .t .now) (a .known .of) (p .0 .0))) (L .inv .1) (λ e. c .if1 .left (omega (arith, e))), L .inv .2, L .inv .3)
 
 same-length : tie.Need-same-length Inv-loop μ-loop
 same-length c = search needs

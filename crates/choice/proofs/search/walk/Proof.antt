@@ -4,6 +4,7 @@ use mathlib.Core.List.{List}
 use native.Mathlib.Omega.{arith}
 use lib.ListN.{length}
 use Rattle.table.specs.Program.{programOf}
+use Rattle.rules.specs.Choice.{at}
 use Rattle.sizes.specs.Call.{choiceOf}
 use Rattle.safety.specs.Safety.{Safe}
 use Rattle.choice.proofs.Walking.{tried-none, walked-at-once, walked-from}
@@ -24,7 +25,7 @@ returns : tie.Need-returns
 returns c =
     let a = c .before .before .before .before .before .before .before .before .before .before .before .args in
     let p = c .before .before .before .before .before .before .before .before .before .before .before .pre in
-    let x = walked-at-once (a .t .now) (a .known .of) (p .0 .0) (a .k) (a .verdicts .now) _ (a .count) (choiceOf (a .order .now)) (p .1 .0 .1) (p .1 .1 .0 .0) (p .1 .1 .0 .3) _ (c .before .before .before .at-once .ensures .0) (c .if1 .taken) in
+    let x = walked-at-once (a .t .now) (a .known .of) (p .0 .0) (a .k) (a .verdicts .now) _ (a .count) (at (a .order .now)) (p .1 .0 .1) (p .1 .1 .0 .0) (p .1 .1 .0 .3) _ (c .before .before .before .at-once .ensures .0) (c .if1 .taken) in
     (x .0, (x .1, c .before .before .before .at-once .ensures .1))
 
 one-by-one-requires : tie.Need-one-by-one-requires
@@ -43,7 +44,7 @@ returns-2 c =
     let p = c .before .before .before .before .before .before .before .before .before .before .before .before .before .before .before .before .before .pre in
     let e = tried-none (a .t .now) (a .known .of) (p .0 .0) (a .k) (a .verdicts .now) _ _ (c .before .before .before .before .before .before .before .before .before .at-once .ensures .0) (c .before .before .before .before .before .before .if1 .left) in
     let w = c .before .before .one-by-one .ensures in
-    let x = walked-from (programOf (a .t .now)) (a .k) (a .count) (a .known .of .nodes) (choiceOf (a .order .now)) e (w .0) (w .1 .0) in
+    let x = walked-from (programOf (a .t .now)) (a .k) (a .count) (a .known .of .nodes) (at (a .order .now)) e (w .0) (w .1 .0) in
     (x .0, (x .1, w .1 .1))
 
 pub walk-spec : {M : Type 1} → statement M

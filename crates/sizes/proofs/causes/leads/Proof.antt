@@ -4,7 +4,8 @@ use mathlib.Core.Path.{_≡_, sym}
 use mathlib.Core.Bool.{true≢false}
 use native.Mathlib.Omega.{arith}
 use lib.ListN.{length}
-use Rattle.rules.specs.Causes.{at, Chain}
+use Rattle.rules.specs.Choice.{at}
+use Rattle.rules.specs.Causes.{Chain}
 use Rattle.rules.proofs.Rises.{chain-met, chain-via}
 use Rattle.sizes.proofs.causes.leads.Statement.{statement}
 use Rattle.sizes.proofs.causes.leads.Tie as tie

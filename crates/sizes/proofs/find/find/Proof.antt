@@ -2,7 +2,7 @@ use mathlib.Core.List.{map}
 use Rattle.table.specs.Program.{programOf}
 use Rattle.sync.specs.Words.{member}
 use Rattle.size.specs.Size.{valueOf}
-use Rattle.rules.specs.Causes.{at}
+use Rattle.rules.specs.Choice.{at}
 use Rattle.sizes.proofs.Laws.{derived-zeros}
 use borrow.Author.Needs.{needs}
 use Rattle.sizes.proofs.find.find.Statement.{statement}

@@ -6,8 +6,8 @@ use Rattle.table.specs.Program.{programOf}
 use Rattle.table.proofs.Ready.{few-functions, few-nodes, functions-are, nodes-are}
 use Rattle.sync.specs.Words.{member}
 use Rattle.size.specs.Size.{valueOf}
+use Rattle.rules.specs.Choice.{at}
 use Rattle.rules.specs.Rules.{entries}
-use Rattle.rules.specs.Causes.{at}
 use borrow.Author.Needs.{needs}
 use Rattle.sizes.proofs.find.put.Statement.{statement}
 use Rattle.sizes.proofs.find.put.Tie as tie

@@ -5,8 +5,8 @@ use mathlib.Core.List.{map}
 use native.Mathlib.Omega.{arith}
 use lib.ListN.{length}
 use Rattle.size.specs.Size.{valueOf}
+use Rattle.rules.specs.Choice.{at}
 use Rattle.sizes.specs.Answer.{Written}
-use Rattle.rules.specs.Causes.{at}
 use Rattle.sizes.proofs.Maps.{map-at}
 use Rattle.sizes.proofs.Writing.{written-none, written-next, written-last}
 use Rattle.sizes.proofs.find.write_sizes.Statement.{statement}

@@ -7,7 +7,7 @@ use lib.ListN.{length, getD, length-replicate, length-set}
 use borrow.Author.Needs.{needs}
 use Rattle.size.specs.Size.{valueOf}
 use Rattle.size.specs.declared.Size.the-variants.{Bytes}
-use Rattle.rules.specs.Causes.{at}
+use Rattle.rules.specs.Choice.{at}
 use Rattle.sizes.specs.Values.{valuesOf, Round, left}
 use Rattle.sizes.proofs.Turns.{second-low, asked-read, old-size, old-after, old-before, old-through, new-size, new-after, new-before, new-through, round-start, round-less, round-on, round-again, again-less, round-solved}
 use Rattle.sizes.proofs.solve.solve.Statement.{statement}

@@ -1,7 +1,7 @@
 use mathlib.Core.Path.{sym, _∙_}
 use Rattle.table.specs.Program.{programOf}
 use Rattle.table.proofs.Ready.{functions-are}
-use Rattle.text.specs.Append.{at}
+use Rattle.rules.specs.Choice.{at}
 use Rattle.text.proofs.Appending.{appended-none, appended-as}
 use Rattle.text.proofs.Texts.{node-spawn, node-other}
 use borrow.Author.Needs.{needs}
