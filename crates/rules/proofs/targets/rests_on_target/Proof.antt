@@ -1,3 +1,4 @@
+use mathlib.Core.Path.{refl}
 use Rattle.rules.specs.System.{takes}
 use borrow.Author.Needs.{needs}
 use Rattle.rules.proofs.targets.rests_on_target.Statement.{statement}
@@ -11,7 +12,7 @@ chosen-requires c κs = search needs
 
 returns : tie.Need-returns
 unfolding takes
-returns c = cc
+returns c = rw (c .before .sort .ensures, c .chosen .ensures) refl
 
 pub rests-on-target-spec : {M : Type 1} → statement M
 rests-on-target-spec = tie.close (tie.spec sort-requires chosen-requires returns)

@@ -1,3 +1,4 @@
+use mathlib.Core.Path.{refl}
 use Rattle.sizes.specs.Call.{outside}
 use borrow.Author.Needs.{needs}
 use Rattle.sizes.proofs.admit.is_outside.Statement.{statement}
@@ -11,7 +12,7 @@ chosen-requires c κs = search needs
 
 returns : tie.Need-returns
 unfolding outside
-returns c = cc
+returns c = rw (c .before .sort .ensures, c .chosen .ensures) refl
 
 pub is-outside-spec : {M : Type 1} → statement M
 is-outside-spec = tie.close (tie.spec sort-requires chosen-requires returns)

@@ -1,3 +1,4 @@
+use mathlib.Core.Path.{refl}
 use borrow.Author.Needs.{needs}
 use Rattle.sync.proofs.search.leads_on.Statement.{statement}
 use Rattle.sync.proofs.search.leads_on.Tie as tie
@@ -18,7 +19,10 @@ has-requires-3 : tie.Need-has-requires-3
 has-requires-3 c κs = search needs
 
 returns : tie.Need-returns
-returns c = cc
+returns c =
+    let a = c .before .before .before .before .edge-from .ensures .0 in
+    let b = c .before .before .before .edge-to .ensures .0 in
+    rw (c .before .before .has .ensures, c .before .has2 .ensures, c .has3 .ensures, a, b) refl
 
 pub leads-on-spec : {M : Type 1} → statement M
 leads-on-spec =

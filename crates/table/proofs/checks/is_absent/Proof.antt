@@ -1,3 +1,4 @@
+use mathlib.Core.Path.{refl}
 use Rattle.table.specs.Checks.{absent}
 use borrow.Author.Needs.{needs}
 use Rattle.table.proofs.checks.is_absent.Statement.{statement}
@@ -20,7 +21,12 @@ has-target-requires c κs = search needs
 
 returns : tie.Need-returns
 unfolding absent
-returns c = cc
+returns c =
+    let counts = c .before .before .before .before .before .before .pre in
+    let kind = c .before .before .before .before .kind .ensures in
+    let a = c .before .before .before .field-a .ensures .0 in
+    let b = c .before .before .field-b .ensures .0 in
+    rw (kind, a, b, c .has-target .ensures, c .before .sort .ensures, counts .functions-are, counts .nodes-are) refl
 
 pub is-absent-spec : {M : Type 1} → statement M
 is-absent-spec =

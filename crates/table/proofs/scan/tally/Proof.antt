@@ -14,7 +14,13 @@ count-kind-requires-3 c κs = search needs
 
 returns : tie.Need-returns
 unfolding functions nodes edges
-returns c = record { functions-are = cc; nodes-are = cc; edges-are = cc }
+returns c =
+    let all = c .before .before .before .before .pre in
+    record {
+      functions-are = rw (← all) (c .before .before .count-kind .ensures);
+      nodes-are = rw (← all) (c .before .count-kind2 .ensures);
+      edges-are = rw (← all) (c .count-kind3 .ensures);
+    }
 
 pub tally-spec : {M : Type 1} → statement M
 tally-spec =
