@@ -17,21 +17,23 @@ extern "C" {
     ) -> u32;
 }
 
-fn best(table: &[u8]) -> (Vec<u8>, Vec<u32>) {
-    let (mut verdicts, mut sizes, mut place) = (vec![0; 512], vec![0; 2304], 0);
+// The calls, with buffers that are lent again and again.
+fn best(table: &[u8], verdicts: &mut [u8], sizes: &mut [u32]) {
     let (v, s) = (verdicts.as_mut_ptr(), sizes.as_mut_ptr());
-    let number = unsafe { nagbiro_best_choice(table.as_ptr(), table.len(), v, 512, s, 2304, &mut place) };
+    let mut place = 0;
+    let number =
+        unsafe { nagbiro_best_choice(table.as_ptr(), table.len(), v, verdicts.len(), s, sizes.len(), &mut place) };
     assert_eq!(number, 0, "refused {number} at {place}");
-    (verdicts, sizes)
 }
 
-fn one(table: &[u8], choice: &[u8]) -> (bool, Vec<u32>) {
-    let (mut sizes, mut safe, mut place) = (vec![0; 2304], 0, 0);
+fn one(table: &[u8], choice: &[u8], sizes: &mut [u32]) -> bool {
     let (c, s) = (choice.as_ptr(), sizes.as_mut_ptr());
-    let number =
-        unsafe { nagbiro_one_choice(table.as_ptr(), table.len(), c, choice.len(), s, 2304, &mut safe, &mut place) };
+    let (mut safe, mut place) = (0, 0);
+    let number = unsafe {
+        nagbiro_one_choice(table.as_ptr(), table.len(), c, choice.len(), s, sizes.len(), &mut safe, &mut place)
+    };
     assert_eq!(number, 0, "refused {number} at {place}");
-    (safe == 1, sizes)
+    safe == 1
 }
 
 // The trials and passes of the best-choice call, and the passes of the call for one choice.
@@ -45,7 +47,7 @@ fn effort(table: &[u8], choice: &[u8]) -> (u32, u32, u32) {
 }
 
 // What a call gives, and its time in milliseconds, from as many calls as fit into a third of a second.
-fn time<T>(call: impl Fn() -> T) -> (T, f64) {
+fn time<T>(mut call: impl FnMut() -> T) -> (T, f64) {
     let start = Instant::now();
     let (mut result, mut calls) = (call(), 1);
     while start.elapsed() < Duration::from_millis(300) {
@@ -64,13 +66,14 @@ fn rounds(table: &[u8], choice: &[u8]) -> u64 {
 fn main() {
     println!("| Table | Best choice, ms | Ratio | Trials | Passes | One choice, ms | Ratio | Passes | Rounds of the second |");
     println!("|---|---|---|---|---|---|---|---|---|");
+    let (mut verdicts, mut written) = (vec![0; 512], vec![0; 2304]);
     for table in tables::tables() {
         let bytes = &table.bytes;
-        let ((verdicts, written), ours) = time(|| best(bytes));
+        let (_, ours) = time(|| best(bytes, &mut verdicts, &mut written));
         let (answer, theirs) = time(|| second::choice::best(bytes, 512, 2304));
         let (choice, sizes) = answer.expect("an accepted table");
         assert!(verdicts[..choice.len()] == choice && written[..sizes.len()] == sizes, "{}: they differ", table.name);
-        let (_, our_one) = time(|| one(bytes, &choice));
+        let (_, our_one) = time(|| one(bytes, &choice, &mut written));
         let (_, their_one) = time(|| second::safety::one_choice(bytes, &choice, 2304));
         let (trials, passes, alone) = effort(bytes, &choice);
         println!(

@@ -1,13 +1,13 @@
 -- One spawn more on a walk: what becomes of its verdict.
 use Prim.Native.Nat.{ℕ, suc, _+_, _-_, _<_, _≤_}
-use mathlib.Core.Path.{_≡_, refl, sym, ap, _∙_, subst}
-use mathlib.Core.Bool.{Bool}
+use mathlib.Core.Path.{_≡_, refl, sym, ap, _∙_, subst, fun-ext}
+use mathlib.Core.Bool.{Bool, true, false}
 use mathlib.Core.List.{List}
 use mathlib.Core.Logic.{_⊎_, inl, inr, ⊎-elim}
 use native.Mathlib.Nat.{eq-or-lt-of-le}
 use native.Mathlib.Omega.{arith}
-use native.Mathlib.Decide.{ℕ-discrete}
-use lib.ListN.{length, set, length-set}
+use native.Mathlib.Decide.{ℕ-discrete, decLt}
+use lib.ListN.{length, set, replicate, length-set}
 use lib.Seq.{getD-set-same, getD-set-other, set-set, set-getD}
 use borrow.Author.Tests.{eq-eqb, ne-eqb}
 use Rattle.table.specs.Record.{spawn}
@@ -15,17 +15,21 @@ use Rattle.table.specs.Answer.{Ready}
 use Rattle.table.specs.Program.{Program, programOf}
 use Rattle.table.specs.WellFormed.{WellFormed}
 use Rattle.table.specs.declared.Counts.{Counts}
+use Rattle.table.proofs.Booleans.{not-both}
 use Rattle.table.proofs.Ready.{nodes-are}
-use Rattle.rules.specs.Rules.{LeastSizes}
+use Rattle.rules.specs.Choice.{at}
+use Rattle.rules.specs.Rules.{entries, LeastSizes}
 use Rattle.rules.specs.System.{Derived}
 use Rattle.sizes.specs.Answer.{Written}
 use Rattle.sizes.specs.Call.{choiceOf}
+use Rattle.rules.proofs.Bounds.{none-past}
+use Rattle.sizes.proofs.Maps.{at-zeros}
 use Rattle.sizes.proofs.Laws.{sizes-alike, derived-larger}
 use Rattle.safety.specs.Safety.{Safe}
 use Rattle.safety.specs.Test.{Judged}
 use Rattle.safety.proofs.Laws.{safe-smaller, safe-alike}
 use Rattle.choice.specs.Preference.{InOrder}
-use Rattle.choice.specs.Walk.{Unmerged, unmergedAt, raisedTo, OthersZero, Sized, Tried, raised, kept, TriedAll, all-raised, all-kept, Walked}
+use Rattle.choice.specs.Walk.{Unmerged, unmergedAt, raisedTo, OthersZero, Sized, Adopted, taken, left, Tried, raised, kept, TriedAll, all-raised, all-kept, Walked}
 
 -- the last of the first i + 1, or one before it
 last-or-before : (j i : ℕ) → j < i + 1 → (j ≡ i) ⊎ (j < i)
@@ -123,14 +127,14 @@ walked-all g k count order from up o h zero e s = record {
         is-spawn (yes b) = b
         is-spawn (no b) = absurd (omega (arith, zero n l b))
 
--- so a trial of all at once that says 1 is a walk, and one that does not leaves the bytes as they were
+-- so a trial of all at once that says so is a walk, and one that does not leaves the bytes as they were
 module _ (t : List ℕ) (of : Counts) (r : Ready t of) (k : ℕ) (old new : List ℕ) where
-  pub tried-none : (done : ℕ) → TriedAll (programOf t) k old new done → (done ≡ 1 → ⊥) → new ≡ old
-  tried-none done (all-raised d s w) x = absurd (x d)
+  pub tried-none : (done : Bool) → TriedAll (programOf t) k old new done → done ≡ false → new ≡ old
+  tried-none done (all-raised d s w) x = not-both done d x
   tried-none done (all-kept d e) x = e
 
-  pub walked-at-once : (count : ℕ) (order : ℕ → ℕ) → InOrder (programOf t) count order → 2 ≤ k → OthersZero (programOf t) (choiceOf old) → (done : ℕ) → TriedAll (programOf t) k old new done → done ≡ 1 → Walked (programOf t) k count order (choiceOf old) (choiceOf new) × Written (of .nodes) (choiceOf new) old new
-  walked-at-once count order o h zero done (all-kept d e) x = absurd (d x)
+  pub walked-at-once : (count : ℕ) (order : ℕ → ℕ) → InOrder (programOf t) count order → 2 ≤ k → OthersZero (programOf t) (choiceOf old) → (done : Bool) → TriedAll (programOf t) k old new done → done ≡ true → Walked (programOf t) k count order (choiceOf old) (choiceOf new) × Written (of .nodes) (choiceOf new) old new
+  walked-at-once count order o h zero done (all-kept d e) x = not-both done x d
   walked-at-once count order o h zero done (all-raised d s w) x = (
     walked-all (programOf t) k count order (choiceOf old) (choiceOf new) o h zero (w .written) s,
     record {
@@ -186,37 +190,67 @@ written-twice count numbers a b c v w = record {
 
 -- ---- a trial, from what the test of a choice says
 
+module _ (g : Program) (formed : WellFormed g) (set′ reached : ℕ → Bool) (c : ℕ → ℕ) where
+  -- numbers that are written over others, which are zeros past the entries, are the same then
+  copied : (from : ℕ → ℕ) {old new : List ℕ} → Derived g set′ reached c from → Written (entries g) from old new → ((x : ℕ) → entries g ≤ x → at old x ≡ 0) → at new ≡ from
+  copied from {old} {new} d w z = fun-ext (λ x. go x (decLt x (entries g)))
+    where
+      go : (x : ℕ) → Dec (x < entries g) → at new x ≡ from x
+      go x (yes h) = w .written x h
+      go x (no h) = w .tail x (omega arith) ∙ z x (omega arith) ∙ sym (none-past g formed set′ reached c (d .each x) (omega arith))
+
+  -- so a choice can be judged from a copy of the sizes there are,
+  pub derived-copy : (sizes : ℕ → ℕ) {old new : List ℕ} → Derived g set′ reached c sizes → Written (entries g) sizes old new → old ≡ replicate 2304 0 → Derived g set′ reached c (at new)
+  derived-copy sizes d w e = subst (Derived g set′ reached c) (sym (copied sizes d w (λ x h. ap (λ (l : List ℕ). at l x) e ∙ at-zeros 2304 x))) d
+
+  -- and be adopted, if it is safe
+  module _ (sizes : List ℕ) (trial : ℕ → ℕ) (safe : Bool) (j : Judged g set′ reached c trial safe) where
+    pub adopted : {new : List ℕ} → safe ≡ true → length sizes ≡ 2304 → Derived g set′ reached c (at sizes) → Written (entries g) trial sizes new → Adopted g set′ reached c sizes new safe
+    adopted {new} y l d w =
+        let same = copied trial (j .derived) w (λ x h. none-past g formed set′ reached c (d .each x) h) in
+        taken y (j .tells .yes-if y) (record {
+          long = w .long ∙ l;
+          sizes-are = subst (LeastSizes g c) (sym same) (j .sizes-are);
+          derived = subst (Derived g set′ reached c) (sym same) (j .derived);
+        })
+
+    pub not-adopted : safe ≡ false → Adopted g set′ reached c sizes sizes safe
+    not-adopted n = left n trial (j .sizes-are) (λ s. not-both safe (j .tells .only-if s) n) refl
+
 module _ (g : Program) (set′ reached : ℕ → Bool) where
   -- sizes serve every choice with the same verdicts
-  pub sized-alike : (c d s : ℕ → ℕ) → ((n : ℕ) → n < g .nodes → c n ≡ d n) → Sized g set′ reached c s → Sized g set′ reached d s
+  pub sized-alike : (c d : ℕ → ℕ) (s : List ℕ) → ((n : ℕ) → n < g .nodes → c n ≡ d n) → Sized g set′ reached c s → Sized g set′ reached d s
   sized-alike c d s e z = record {
-    sizes-are = sizes-alike g c d s e (z .sizes-are);
-    derived = derived-larger g set′ reached c d s (λ n h. omega (arith, e n h)) (z .derived);
+    long = z .long;
+    sizes-are = sizes-alike g c d (at s) e (z .sizes-are);
+    derived = derived-larger g set′ reached c d (at s) (λ n h. omega (arith, e n h)) (z .derived);
   }
 
   module _ (n k : ℕ) (old : List ℕ) where
     -- the sizes there are serve for the larger choice,
-    pub derived-raised : (s : ℕ → ℕ) → n < length old → choiceOf old n ≤ k → Sized g set′ reached (choiceOf old) s → Derived g set′ reached (choiceOf (set old n k)) s
-    derived-raised s h l z = derived-larger g set′ reached (choiceOf old) (choiceOf (set old n k)) s (λ m b. go m (ℕ-discrete m n)) (z .derived)
+    pub derived-raised : (s : List ℕ) → n < length old → choiceOf old n ≤ k → Sized g set′ reached (choiceOf old) s → Derived g set′ reached (choiceOf (set old n k)) (at s)
+    derived-raised s h l z = derived-larger g set′ reached (choiceOf old) (choiceOf (set old n k)) (at s) (λ m b. go m (ℕ-discrete m n)) (z .derived)
       where
         go : (m : ℕ) → Dec (m ≡ n) → choiceOf old m ≤ choiceOf (set old n k) m
         go m (yes e) = omega (arith, ap (choiceOf old) e, ap (choiceOf (set old n k)) e, getD-set-same old n k 0 h)
         go m (no e) = omega (arith, getD-set-other old n m k 0 e)
 
-    -- and what the test of it says decides
-    module _ (f : ℕ → ℕ) (safe : ℕ) (j : Judged g set′ reached (choiceOf (set old n k)) f safe) where
-      pub tried-raised : safe ≡ 1 → Tried g n k old (set old n k) × Sized g set′ reached (choiceOf (set old n k)) f
-      tried-raised e = (raised (j .tells .0 e), record { sizes-are = j .sizes-are; derived = j .derived })
+    -- and whether it is adopted decides
+    module _ {s f : List ℕ} {safe : Bool} where
+      pub tried-raised : Adopted g set′ reached (choiceOf (set old n k)) s f safe → safe ≡ true → Tried g n k old (set old n k) × Sized g set′ reached (choiceOf (set old n k)) f
+      tried-raised (taken y x z) e = (raised x, z)
+      tried-raised (left y u l x q) e = not-both safe e y
 
-      pub tried-kept : (safe ≡ 1 → ⊥) → (s : ℕ → ℕ) → Sized g set′ reached (choiceOf old) s → Tried g n k old (set (set old n k) n (choiceOf old n)) × Sized g set′ reached (choiceOf (set (set old n k) n (choiceOf old n))) s
-      tried-kept e s z =
-          subst (λ (l : List ℕ). Tried g n k old l × Sized g set′ reached (choiceOf l) s) (sym (set-set old n k (choiceOf old n) ∙ set-getD old n 0))
-          (kept f (j .sizes-are) (λ x. e (j .tells .1 x)), z)
+      pub tried-kept : Adopted g set′ reached (choiceOf (set old n k)) s f safe → safe ≡ false → Sized g set′ reached (choiceOf old) s → Tried g n k old (set (set old n k) n (choiceOf old n)) × Sized g set′ reached (choiceOf (set (set old n k) n (choiceOf old n))) f
+      tried-kept (taken y x w) e z = not-both safe y e
+      tried-kept (left y u l x q) e z =
+          subst (λ (v : List ℕ). Tried g n k old v × Sized g set′ reached (choiceOf v) f) (sym (set-set old n k (choiceOf old n) ∙ set-getD old n 0))
+          (kept u l x, subst (Sized g set′ reached (choiceOf old)) (sym q) z)
 
   -- the same for all at once: `all` has the verdicts raised, and `new` gets them if that is safe
   module _ (k nodes : ℕ) (old all : List ℕ) (e : nodes ≡ g .nodes) (h : 1 ≤ k) {first : List ℕ} (a : Written nodes (λ n. raisedTo k (choiceOf old n)) first all) where
-    pub derived-all : (s : ℕ → ℕ) → Sized g set′ reached (choiceOf old) s → Derived g set′ reached (choiceOf all) s
-    derived-all s z = derived-larger g set′ reached (choiceOf old) (choiceOf all) s (λ n b. go n b (ℕ-discrete (choiceOf old n) (k - 1))) (z .derived)
+    pub derived-all : (s : List ℕ) → Sized g set′ reached (choiceOf old) s → Derived g set′ reached (choiceOf all) (at s)
+    derived-all s z = derived-larger g set′ reached (choiceOf old) (choiceOf all) (at s) (λ n b. go n b (ℕ-discrete (choiceOf old n) (k - 1))) (z .derived)
       where
         go : (n : ℕ) → n < g .nodes → Dec (choiceOf old n ≡ k - 1) → choiceOf old n ≤ choiceOf all n
         go n b (yes q) =
@@ -226,19 +260,24 @@ module _ (g : Program) (set′ reached : ℕ → Bool) where
             let r : raisedTo k (choiceOf old n) ≡ choiceOf old n = rw (ne-eqb (choiceOf old n) (k - 1) q) refl in
             omega (arith, a .written n (omega arith), r)
 
-    module _ (f : ℕ → ℕ) (safe : ℕ) (j : Judged g set′ reached (choiceOf all) f safe) where
-      pub tried-all : {new : List ℕ} → Written nodes (choiceOf all) old new → safe ≡ 1 → TriedAll g k old new safe × Sized g set′ reached (choiceOf new) f
-      tried-all {new} b y = (
-        all-raised y (safe-alike g (choiceOf all) (choiceOf new) same (j .tells .0 y)) (record {
+    module _ {s f : List ℕ} {safe : Bool} where
+      pub tried-all : Adopted g set′ reached (choiceOf all) s f safe → safe ≡ true → {new : List ℕ} → Written nodes (choiceOf all) old new → TriedAll g k old new true × Sized g set′ reached (choiceOf new) f
+      tried-all (left y u l x q) t b = not-both safe t y
+      tried-all (taken y x z) t {new} b = (
+        all-raised refl (safe-alike g (choiceOf all) (choiceOf new) same x) (record {
           long = b .long;
           written = λ n l. b .written n (omega arith) ∙ a .written n (omega arith);
           tail = λ n l. b .tail n (omega arith);
         }),
-        sized-alike (choiceOf all) (choiceOf new) f same (record { sizes-are = j .sizes-are; derived = j .derived }),
+        sized-alike (choiceOf all) (choiceOf new) f same z,
       )
         where
           same : (n : ℕ) → n < g .nodes → choiceOf all n ≡ choiceOf new n
           same n l = sym (b .written n (omega arith))
+
+      pub tried-nothing : Adopted g set′ reached (choiceOf all) s f safe → safe ≡ false → Sized g set′ reached (choiceOf old) s → TriedAll g k old old false × Sized g set′ reached (choiceOf old) f
+      tried-nothing (taken y x w) t z = not-both safe y t
+      tried-nothing (left y u l x q) t z = (all-kept refl refl, subst (Sized g set′ reached (choiceOf old)) (sym q) z)
 
 -- ---- unmerged everywhere
 

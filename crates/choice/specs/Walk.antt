@@ -1,14 +1,14 @@
 -- The two walks of the search for the best choice. Helps proofs only.
 use Prim.Native.Nat.{ℕ, suc, _-_, _<_, _≤_}
 use mathlib.Core.Path.{_≡_}
-use mathlib.Core.Bool.{Bool, cond}
+use mathlib.Core.Bool.{Bool, true, false, cond}
 use mathlib.Core.List.{List}
 use mathlib.Core.Logic.{_⊎_}
 use lib.Dec.{eqb}
-use lib.ListN.{set}
+use lib.ListN.{length, set}
 use Rattle.table.specs.Record.{spawn}
 use Rattle.table.specs.Program.{Program}
-use Rattle.rules.specs.Choice.{unmerged}
+use Rattle.rules.specs.Choice.{at, unmerged}
 use Rattle.rules.specs.Rules.{LeastSizes}
 use Rattle.rules.specs.System.{Derived}
 use Rattle.sizes.specs.Answer.{Written}
@@ -25,10 +25,16 @@ pub record Unmerged (g : Program) (c : ℕ → ℕ) : Type 0 where
 abbrev pub unmergedAt : Program → ℕ → ℕ
 unmergedAt g n = cond (eqb (g .sort n) spawn) unmerged 0
 
--- s are the sizes of choice c, and those of a larger choice may be found from them
-pub record Sized (g : Program) (set reached : ℕ → Bool) (c s : ℕ → ℕ) : Type 0 where
-  pub sizes-are : LeastSizes g c s
-  pub derived : Derived g set reached c s
+-- the numbers are the sizes of choice c, and those of a larger choice may be found from them
+pub record Sized (g : Program) (set reached : ℕ → Bool) (c : ℕ → ℕ) (sizes : List ℕ) : Type 0 where
+  pub long : length sizes ≡ 2304
+  pub sizes-are : LeastSizes g c (at sizes)
+  pub derived : Derived g set reached c (at sizes)
+
+-- choice c is safe, and its sizes have taken the place of those there were; or it is not, and they stay
+pub data Adopted (g : Program) (set reached : ℕ → Bool) (c : ℕ → ℕ) (old new : List ℕ) : Bool → Type 0 where
+  taken : {safe : Bool} → safe ≡ true → Safe g c → Sized g set reached c new → Adopted g set reached c old new safe
+  left : {safe : Bool} → safe ≡ false → (s : ℕ → ℕ) → LeastSizes g c s → (Safe g c → ⊥) → new ≡ old → Adopted g set reached c old new safe
 
 -- one trial: spawn n has got verdict k and the choice is safe, or it would not be and nothing has changed
 pub data Tried (g : Program) (n k : ℕ) (old : List ℕ) : List ℕ → Type 0 where
@@ -43,10 +49,10 @@ raisedTo k verdict = cond (eqb verdict (k - 1)) k verdict
 abbrev pub OthersZero : Program → (ℕ → ℕ) → Type 0
 OthersZero g c = (n : ℕ) → n < g .nodes → (g .sort n ≡ spawn → ⊥) → c n ≡ 0
 
--- a trial of all at once, which says 1 if they have got verdict k
-pub data TriedAll (g : Program) (k : ℕ) (old new : List ℕ) : ℕ → Type 0 where
-  all-raised : {done : ℕ} → done ≡ 1 → Safe g (choiceOf new) → Written (g .nodes) (λ n. raisedTo k (choiceOf old n)) old new → TriedAll g k old new done
-  all-kept : {done : ℕ} → (done ≡ 1 → ⊥) → new ≡ old → TriedAll g k old new done
+-- a trial of all at once, which says whether they have got verdict k
+pub data TriedAll (g : Program) (k : ℕ) (old new : List ℕ) : Bool → Type 0 where
+  all-raised : {done : Bool} → done ≡ true → Safe g (choiceOf new) → Written (g .nodes) (λ n. raisedTo k (choiceOf old n)) old new → TriedAll g k old new done
+  all-kept : {done : Bool} → done ≡ false → new ≡ old → TriedAll g k old new done
 
 -- A walk that has gone over the first i spawns of the order: each that had one less has verdict k, or no safe choice that does for those
 -- before it what the walk did gives it k.

@@ -8,7 +8,7 @@ use admit::admit;
 use order::in_order;
 use search::choose;
 use sizes::Answer;
-use sizes::find::write_sizes;
+use sizes::find::copy;
 use table::Checked;
 use table::check;
 ghost use mathlib.Core.Path.{_≡_};
@@ -68,9 +68,10 @@ pub fn best(t: &[u8], verdicts: &mut [u8], sizes: &mut [u32]) -> Answer
         Answer::Done => {
             let mut trials: u32 = 0;
             let mut passes: u32 = 0;
-            let found = choose(t, known, verdicts, &mut trials, &mut passes);
+            let mut found = [0u32; 2304];
+            choose(t, known, verdicts, &mut found, &mut trials, &mut passes);
             let count = 4 * (known.of.functions + known.of.nodes);
-            write_sizes(found, count, sizes);
+            copy(&found, count, sizes);
             Answer::Done
         }
     }

@@ -1,27 +1,28 @@
 // The search for the best choice: two walks over the spawns in the preference order.
 use crate::order::in_order;
 use rules::Known;
+use rules::force::list_widest;
+use rules::list::room;
 use safety::judge;
-use size::Size;
-use sizes::find::find;
+use sizes::find;
 use std::num::wrapping_add_u32;
 use table::Counts;
 use table::program;
 ghost use mathlib.Core.Path.{_≡_};
-ghost use mathlib.Core.List.{map};
 ghost use Prim.Native.Nat.{_<_, _≤_};
-ghost use lib.ListN.{length};
+ghost use lib.ListN.{length, replicate};
 ghost use Rattle.table.specs.Answer.{Ready};
 ghost use Rattle.table.specs.Program.{programOf};
 ghost use Rattle.sync.specs.Words.{member};
 ghost use Rattle.sync.specs.Answer.{Sets};
-ghost use Rattle.size.specs.Size.{valueOf};
 ghost use Rattle.rules.specs.Choice.{at};
+ghost use Rattle.rules.specs.System.{Derived};
+ghost use Rattle.rules.specs.Listed.{Widest};
 ghost use Rattle.sizes.specs.Answer.{Written};
 ghost use Rattle.sizes.specs.Call.{choiceOf};
 ghost use Rattle.safety.specs.Safety.{Safe};
 ghost use Rattle.choice.specs.Preference.{InOrder};
-ghost use Rattle.choice.specs.Walk.{unmergedAt, raisedTo, OthersZero, Sized, Tried, TriedAll, Walked, Chosen};
+ghost use Rattle.choice.specs.Walk.{unmergedAt, raisedTo, OthersZero, Sized, Adopted, Tried, TriedAll, Walked, Chosen};
 
 // The verdict of node n where nothing is merged: 1 for a spawn, and 0 for any other node.
 fn unmerged(t: &[u8], of: Counts, n: usize) -> u8
@@ -43,68 +44,87 @@ fn unmerge(t: &[u8], of: Counts, verdicts: &mut [u8])
     }
 }
 
-// A trial: gives spawn n the verdict k, unless the choice would not be safe. Its sizes are found from those it has, and given back;
-// the passes that this took are counted.
+// Judges a choice that is larger than the one whose sizes are at hand; if it is safe, its sizes take their place. The passes that
+// this took are counted.
+fn adopt(
+    t: &[u8],
+    known: Known,
+    all: &[u64],
+    choice: &[u8],
+    sizes: &mut [u32],
+    passes: &mut u32,
+) -> bool
+    requires { ⌜ Ready (now t) (known .of) × Sets (programOf (now t)) (known .synchronising) (known .reached) × Widest (now t) known (now all) ⌝ }
+    requires { ⌜ (length (now sizes) ≡ 2304) × Derived (programOf (now t)) (member (known .synchronising)) (member (known .reached)) (choiceOf (now choice)) (at (now sizes)) ⌝ }
+    ensures { λ r. ⌜ Adopted (programOf (now (t .entry))) (member (known .synchronising)) (member (known .reached)) (choiceOf (now (choice .entry))) (now (sizes .entry)) (now (sizes .exit)) r ⌝ }
+{
+    let count = 4 * (known.of.functions + known.of.nodes);
+    let mut trial = [0u32; 2304];
+    find::copy(sizes, count, &mut trial);
+    let safe = judge(t, choice, known, all, &mut trial, passes);
+    if safe {
+        find::copy(&trial, count, sizes);
+    }
+    safe
+}
+
+// A trial: gives spawn n the verdict k, unless the choice would not be safe. Its sizes are found from those there are.
 fn attempt(
     t: &[u8],
     known: Known,
+    all: &[u64],
     n: usize,
     k: u8,
     verdicts: &mut [u8],
-    from: [Size; 2304],
+    sizes: &mut [u32],
     passes: &mut u32,
-) -> [Size; 2304]
-    requires { ⌜ Ready (now t) (known .of) × Sets (programOf (now t)) (known .synchronising) (known .reached) ⌝ }
+)
+    requires { ⌜ Ready (now t) (known .of) × Sets (programOf (now t)) (known .synchronising) (known .reached) × Widest (now t) known (now all) ⌝ }
     requires { ⌜ (n < length (now verdicts)) × (choiceOf (now verdicts) n ≤ k) ⌝ }
-    requires { ⌜ Sized (programOf (now t)) (member (known .synchronising)) (member (known .reached)) (choiceOf (now verdicts)) (at (map valueOf from)) ⌝ }
+    requires { ⌜ Sized (programOf (now t)) (member (known .synchronising)) (member (known .reached)) (choiceOf (now verdicts)) (now sizes) ⌝ }
     ensures { λ _. ⌜ Tried (programOf (now (t .entry))) n k (now (verdicts .entry)) (now (verdicts .exit)) ⌝ }
-    ensures { λ r. ⌜ Sized (programOf (now (t .entry))) (member (known .synchronising)) (member (known .reached)) (choiceOf (now (verdicts .exit))) (at (map valueOf r)) ⌝ }
+    ensures { λ _. ⌜ Sized (programOf (now (t .entry))) (member (known .synchronising)) (member (known .reached)) (choiceOf (now (verdicts .exit))) (now (sizes .exit)) ⌝ }
 {
     let old = verdicts[n];
     verdicts[n] = k;
-    let mut safe: u32 = 0;
-    let found = judge(t, verdicts, known, from, &mut safe, passes);
-    if safe == 1 {
-        return found;
+    if adopt(t, known, all, verdicts, sizes, passes) {
+        return;
     }
     verdicts[n] = old;
-    from
 }
 
 // Gives each spawn in order that has the verdict below k the verdict k, where the choice stays safe. It counts trials and passes.
 fn one_by_one(
     t: &[u8],
     known: Known,
+    all: &[u64],
     order: &[usize],
     count: usize,
     k: u8,
     verdicts: &mut [u8],
-    from: [Size; 2304],
+    sizes: &mut [u32],
     trials: &mut u32,
     passes: &mut u32,
-) -> [Size; 2304]
-    requires { ⌜ Ready (now t) (known .of) × Sets (programOf (now t)) (known .synchronising) (known .reached) ⌝ }
+)
+    requires { ⌜ Ready (now t) (known .of) × Sets (programOf (now t)) (known .synchronising) (known .reached) × Widest (now t) known (now all) ⌝ }
     requires { ⌜ (count ≤ length (now order)) × InOrder (programOf (now t)) count (at (now order)) ⌝ }
     requires { ⌜ (1 ≤ k) × (known .of .nodes ≤ length (now verdicts)) × Safe (programOf (now t)) (choiceOf (now verdicts)) ⌝ }
-    requires { ⌜ Sized (programOf (now t)) (member (known .synchronising)) (member (known .reached)) (choiceOf (now verdicts)) (at (map valueOf from)) ⌝ }
+    requires { ⌜ Sized (programOf (now t)) (member (known .synchronising)) (member (known .reached)) (choiceOf (now verdicts)) (now sizes) ⌝ }
     ensures { λ _. ⌜ Walked (programOf (now (t .entry))) k count (at (now (order .entry))) (choiceOf (now (verdicts .entry))) (choiceOf (now (verdicts .exit))) ⌝ }
     ensures { λ _. ⌜ Written (known .of .nodes) (choiceOf (now (verdicts .exit))) (now (verdicts .entry)) (now (verdicts .exit)) ⌝ }
-    ensures { λ r. ⌜ Sized (programOf (now (t .entry))) (member (known .synchronising)) (member (known .reached)) (choiceOf (now (verdicts .exit))) (at (map valueOf r)) ⌝ }
+    ensures { λ _. ⌜ Sized (programOf (now (t .entry))) (member (known .synchronising)) (member (known .reached)) (choiceOf (now (verdicts .exit))) (now (sizes .exit)) ⌝ }
 {
-    let mut sizes = from;
     let mut i: usize = 0;
     while i < count {
         let n = order[i];
         i += 1;
         if verdicts[n] == k - 1 {
             let mut spent: u32 = 0;
-            let next = attempt(t, known, n, k, verdicts, sizes, &mut spent);
-            sizes = next;
+            attempt(t, known, all, n, k, verdicts, sizes, &mut spent);
             *trials = wrapping_add_u32(*trials, 1);
             *passes = wrapping_add_u32(*passes, spent);
         }
     }
-    sizes
 }
 
 // How many of the nodes have the verdict below k.
@@ -156,31 +176,29 @@ fn copy(count: usize, from: &[u8], to: &mut [u8])
     }
 }
 
-// A trial of all at once: gives each spawn that has the verdict below k the verdict k, if the choice stays safe, and says so: 1 for
-// yes, and 0 for no.
+// A trial of all at once: gives each spawn that has the verdict below k the verdict k, if the choice stays safe, and says so.
 fn all_at_once(
     t: &[u8],
     known: Known,
+    all: &[u64],
     k: u8,
     verdicts: &mut [u8],
-    from: [Size; 2304],
-    done: &mut u32,
+    sizes: &mut [u32],
     passes: &mut u32,
-) -> [Size; 2304]
-    requires { ⌜ Ready (now t) (known .of) × Sets (programOf (now t)) (known .synchronising) (known .reached) ⌝ }
+) -> bool
+    requires { ⌜ Ready (now t) (known .of) × Sets (programOf (now t)) (known .synchronising) (known .reached) × Widest (now t) known (now all) ⌝ }
     requires { ⌜ (1 ≤ k) × (known .of .nodes ≤ length (now verdicts)) ⌝ }
-    requires { ⌜ Sized (programOf (now t)) (member (known .synchronising)) (member (known .reached)) (choiceOf (now verdicts)) (at (map valueOf from)) ⌝ }
-    ensures { λ _. ⌜ TriedAll (programOf (now (t .entry))) k (now (verdicts .entry)) (now (verdicts .exit)) (now (done .exit)) ⌝ }
-    ensures { λ r. ⌜ Sized (programOf (now (t .entry))) (member (known .synchronising)) (member (known .reached)) (choiceOf (now (verdicts .exit))) (at (map valueOf r)) ⌝ }
+    requires { ⌜ Sized (programOf (now t)) (member (known .synchronising)) (member (known .reached)) (choiceOf (now verdicts)) (now sizes) ⌝ }
+    ensures { λ r. ⌜ TriedAll (programOf (now (t .entry))) k (now (verdicts .entry)) (now (verdicts .exit)) r ⌝ }
+    ensures { λ _. ⌜ Sized (programOf (now (t .entry))) (member (known .synchronising)) (member (known .reached)) (choiceOf (now (verdicts .exit))) (now (sizes .exit)) ⌝ }
 {
-    let mut all = [0u8; 512];
-    raise_all(known.of.nodes, k, verdicts, &mut all);
-    let found = judge(t, &all, known, from, done, passes);
-    if *done == 1 {
-        copy(known.of.nodes, &all, verdicts);
-        return found;
+    let mut larger = [0u8; 512];
+    raise_all(known.of.nodes, k, verdicts, &mut larger);
+    if adopt(t, known, all, &larger, sizes, passes) {
+        copy(known.of.nodes, &larger, verdicts);
+        return true;
     }
-    from
+    false
 }
 
 // Tries all spawns that wait for the verdict k at once, where at least two do. Where all spawns but one wait, a further trial
@@ -188,100 +206,164 @@ fn all_at_once(
 fn at_once(
     t: &[u8],
     known: Known,
+    all: &[u64],
     count: usize,
     k: u8,
     verdicts: &mut [u8],
-    from: [Size; 2304],
-    done: &mut u32,
+    sizes: &mut [u32],
     trials: &mut u32,
     passes: &mut u32,
-) -> [Size; 2304]
-    requires { ⌜ Ready (now t) (known .of) × Sets (programOf (now t)) (known .synchronising) (known .reached) ⌝ }
+) -> bool
+    requires { ⌜ Ready (now t) (known .of) × Sets (programOf (now t)) (known .synchronising) (known .reached) × Widest (now t) known (now all) ⌝ }
     requires { ⌜ (1 ≤ k) × (known .of .nodes ≤ length (now verdicts)) ⌝ }
-    requires { ⌜ Sized (programOf (now t)) (member (known .synchronising)) (member (known .reached)) (choiceOf (now verdicts)) (at (map valueOf from)) ⌝ }
-    ensures { λ _. ⌜ TriedAll (programOf (now (t .entry))) k (now (verdicts .entry)) (now (verdicts .exit)) (now (done .exit)) ⌝ }
-    ensures { λ r. ⌜ Sized (programOf (now (t .entry))) (member (known .synchronising)) (member (known .reached)) (choiceOf (now (verdicts .exit))) (at (map valueOf r)) ⌝ }
+    requires { ⌜ Sized (programOf (now t)) (member (known .synchronising)) (member (known .reached)) (choiceOf (now verdicts)) (now sizes) ⌝ }
+    ensures { λ r. ⌜ TriedAll (programOf (now (t .entry))) k (now (verdicts .entry)) (now (verdicts .exit)) r ⌝ }
+    ensures { λ _. ⌜ Sized (programOf (now (t .entry))) (member (known .synchronising)) (member (known .reached)) (choiceOf (now (verdicts .exit))) (now (sizes .exit)) ⌝ }
 {
-    *done = 0;
     let wait = waiting(known.of.nodes, k, verdicts);
     if wait < 2 {
-        return from;
+        return false;
     }
     if wait + 1 == count {
-        return from;
+        return false;
     }
     let mut spent: u32 = 0;
-    let found = all_at_once(t, known, k, verdicts, from, done, &mut spent);
+    let done = all_at_once(t, known, all, k, verdicts, sizes, &mut spent);
     *trials = wrapping_add_u32(*trials, 1);
     *passes = wrapping_add_u32(*passes, spent);
-    found
+    done
 }
 
 // A walk over the spawns: all at once, if that is safe, and else one by one.
 fn walk(
     t: &[u8],
     known: Known,
+    all: &[u64],
     order: &[usize],
     count: usize,
     k: u8,
     verdicts: &mut [u8],
-    from: [Size; 2304],
+    sizes: &mut [u32],
     trials: &mut u32,
     passes: &mut u32,
-) -> [Size; 2304]
-    requires { ⌜ Ready (now t) (known .of) × Sets (programOf (now t)) (known .synchronising) (known .reached) ⌝ }
+)
+    requires { ⌜ Ready (now t) (known .of) × Sets (programOf (now t)) (known .synchronising) (known .reached) × Widest (now t) known (now all) ⌝ }
     requires { ⌜ (count ≤ length (now order)) × InOrder (programOf (now t)) count (at (now order)) ⌝ }
     requires { ⌜ (2 ≤ k) × (known .of .nodes ≤ length (now verdicts)) × Safe (programOf (now t)) (choiceOf (now verdicts)) × OthersZero (programOf (now t)) (choiceOf (now verdicts)) ⌝ }
-    requires { ⌜ Sized (programOf (now t)) (member (known .synchronising)) (member (known .reached)) (choiceOf (now verdicts)) (at (map valueOf from)) ⌝ }
+    requires { ⌜ Sized (programOf (now t)) (member (known .synchronising)) (member (known .reached)) (choiceOf (now verdicts)) (now sizes) ⌝ }
     ensures { λ _. ⌜ Walked (programOf (now (t .entry))) k count (at (now (order .entry))) (choiceOf (now (verdicts .entry))) (choiceOf (now (verdicts .exit))) ⌝ }
     ensures { λ _. ⌜ Written (known .of .nodes) (choiceOf (now (verdicts .exit))) (now (verdicts .entry)) (now (verdicts .exit)) ⌝ }
-    ensures { λ r. ⌜ Sized (programOf (now (t .entry))) (member (known .synchronising)) (member (known .reached)) (choiceOf (now (verdicts .exit))) (at (map valueOf r)) ⌝ }
+    ensures { λ _. ⌜ Sized (programOf (now (t .entry))) (member (known .synchronising)) (member (known .reached)) (choiceOf (now (verdicts .exit))) (now (sizes .exit)) ⌝ }
 {
-    let mut done: u32 = 0;
-    let found = at_once(
+    if at_once(t, known, all, count, k, verdicts, sizes, trials, passes) {
+        return;
+    }
+    one_by_one(
         t,
         known,
+        all,
+        order,
         count,
         k,
         verdicts,
-        from,
-        &mut done,
+        sizes,
         trials,
         passes,
     );
-    if done == 1 {
-        return found;
-    }
-    one_by_one(t, known, order, count, k, verdicts, found, trials, passes)
 }
 
-// The sizes of the choice in the first bytes, from zero on.
-fn sizes_of(t: &[u8], known: Known, verdicts: &[u8], passes: &mut u32) -> [Size; 2304]
-    requires { ⌜ Ready (now t) (known .of) × Sets (programOf (now t)) (known .synchronising) (known .reached) ⌝ }
-    ensures { λ r. ⌜ Sized (programOf (now (t .entry))) (member (known .synchronising)) (member (known .reached)) (choiceOf (now (verdicts .entry))) (at (map valueOf r)) ⌝ }
+// The sizes of the choice in the first bytes, from zeros.
+fn sizes_of(
+    t: &[u8],
+    known: Known,
+    all: &[u64],
+    verdicts: &[u8],
+    sizes: &mut [u32],
+    passes: &mut u32,
+)
+    requires { ⌜ Ready (now t) (known .of) × Sets (programOf (now t)) (known .synchronising) (known .reached) × Widest (now t) known (now all) ⌝ }
+    requires { ⌜ now sizes ≡ replicate 2304 0 ⌝ }
+    ensures { λ _. ⌜ Sized (programOf (now (t .entry))) (member (known .synchronising)) (member (known .reached)) (choiceOf (now (verdicts .entry))) (now (sizes .exit)) ⌝ }
 {
     let mut after = [0u32; 512];
     let mut before = [0u32; 512];
-    find(t, verdicts, known, &mut after, &mut before, passes)
+    find::find_from(
+        t,
+        verdicts,
+        known,
+        all,
+        sizes,
+        &mut after,
+        &mut before,
+        passes,
+    );
 }
 
-// The best choice of an accepted table, in as many bytes as there are nodes, and its sizes. It counts the trials, and the passes that
-// it took in all.
-pub fn choose(
+// The two walks, with the rules of the widest choice at hand.
+fn search(
     t: &[u8],
     known: Known,
+    all: &[u64],
     verdicts: &mut [u8],
+    sizes: &mut [u32],
     trials: &mut u32,
     passes: &mut u32,
-) -> [Size; 2304]
-    requires { ⌜ Ready (now t) (known .of) × Sets (programOf (now t)) (known .synchronising) (known .reached) ⌝ }
-    requires { ⌜ known .of .nodes ≤ length (now verdicts) ⌝ }
-    ensures { λ r. ⌜ Chosen (programOf (now (t .entry))) (now (verdicts .entry)) (now (verdicts .exit)) (at (map valueOf r)) ⌝ }
+)
+    requires { ⌜ Ready (now t) (known .of) × Sets (programOf (now t)) (known .synchronising) (known .reached) × Widest (now t) known (now all) ⌝ }
+    requires { ⌜ (known .of .nodes ≤ length (now verdicts)) × (now sizes ≡ replicate 2304 0) ⌝ }
+    ensures { λ _. ⌜ Chosen (programOf (now (t .entry))) (now (verdicts .entry)) (now (verdicts .exit)) (at (now (sizes .exit))) ⌝ }
 {
     let mut order = [0usize; 512];
     let count = in_order(t, known.of, &mut order);
     unmerge(t, known.of, verdicts);
-    let none = sizes_of(t, known, verdicts, passes);
-    let merged = walk(t, known, &order, count, 2, verdicts, none, trials, passes);
-    walk(t, known, &order, count, 3, verdicts, merged, trials, passes)
+    sizes_of(t, known, all, verdicts, sizes, passes);
+    walk(
+        t,
+        known,
+        all,
+        &order,
+        count,
+        2,
+        verdicts,
+        sizes,
+        trials,
+        passes,
+    );
+    walk(
+        t,
+        known,
+        all,
+        &order,
+        count,
+        3,
+        verdicts,
+        sizes,
+        trials,
+        passes,
+    );
+}
+
+// The best choice of an accepted table, in as many bytes as there are nodes, and its sizes. It counts the trials, and the passes that
+// it took in all. A table of few rules gets a small list of them.
+pub fn choose(
+    t: &[u8],
+    known: Known,
+    verdicts: &mut [u8],
+    sizes: &mut [u32],
+    trials: &mut u32,
+    passes: &mut u32,
+)
+    requires { ⌜ Ready (now t) (known .of) × Sets (programOf (now t)) (known .synchronising) (known .reached) ⌝ }
+    requires { ⌜ (known .of .nodes ≤ length (now verdicts)) × (now sizes ≡ replicate 2304 0) ⌝ }
+    ensures { λ _. ⌜ Chosen (programOf (now (t .entry))) (now (verdicts .entry)) (now (verdicts .exit)) (at (now (sizes .exit))) ⌝ }
+{
+    if room(known.of) <= 512 {
+        let mut rules = [0u64; 512];
+        let count = list_widest(t, known, &mut rules);
+        search(t, known, &rules[..count], verdicts, sizes, trials, passes);
+    } else {
+        let mut rules = [0u64; 8384];
+        let count = list_widest(t, known, &mut rules);
+        search(t, known, &rules[..count], verdicts, sizes, trials, passes);
+    }
 }

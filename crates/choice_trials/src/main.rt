@@ -17,9 +17,17 @@ fn show(name: &[u8], t: &[u8]) {
     let answer = admitted.answer;
     match answer {
         Answer::Done => {
+            let mut sizes = [0u32; 2304];
             let mut trials: u32 = 0;
             let mut passes: u32 = 0;
-            choose(t, known, &mut verdicts, &mut trials, &mut passes);
+            choose(
+                t,
+                known,
+                &mut verdicts,
+                &mut sizes,
+                &mut trials,
+                &mut passes,
+            );
             report::number(trials as usize);
             io::write_all(STDOUT_FILENO, b" trials, ");
             report::number(passes as usize);

@@ -7,13 +7,14 @@ use sizes::find::find;
 #[no_mangle]
 pub extern "C" fn nagbiro_best_effort(t: &[u8], trials: &mut u32, passes: &mut u32) -> u32 {
     let mut verdicts = [0u8; 512];
+    let mut sizes = [0u32; 2304];
     let admitted = choice::admit::admit(t, 512, 2304);
     let known = admitted.known;
     let answer = admitted.answer;
     match answer {
         Answer::Refused(number, _) => number,
         Answer::Done => {
-            choose(t, known, &mut verdicts, trials, passes);
+            choose(t, known, &mut verdicts, &mut sizes, trials, passes);
             0
         }
     }
@@ -22,6 +23,7 @@ pub extern "C" fn nagbiro_best_effort(t: &[u8], trials: &mut u32, passes: &mut u
 // Of the call for one choice.
 #[no_mangle]
 pub extern "C" fn nagbiro_one_effort(t: &[u8], choice: &[u8], passes: &mut u32) -> u32 {
+    let mut sizes = [0u32; 2304];
     let mut after = [0u32; 512];
     let mut before = [0u32; 512];
     let admitted = sizes::admit::admit(t, choice, 2304);
@@ -30,7 +32,15 @@ pub extern "C" fn nagbiro_one_effort(t: &[u8], choice: &[u8], passes: &mut u32) 
     match answer {
         Answer::Refused(number, _) => number,
         Answer::Done => {
-            find(t, choice, known, &mut after, &mut before, passes);
+            find(
+                t,
+                choice,
+                known,
+                &mut sizes,
+                &mut after,
+                &mut before,
+                passes,
+            );
             0
         }
     }

@@ -1,4 +1,5 @@
 -- For the crates above: laws of the finite system, of what its rules derive, and of its solutions.
+pub mod Bounds
 pub mod Rises
 pub mod Taking
 pub mod Solved
@@ -7,3 +8,4 @@ mod Ahead
 mod Derived
 mod Numbers
 mod Listing
+mod Widest

@@ -15,7 +15,7 @@ use Rattle.rules.specs.declared.sums.Sum.the-variants.{After, Before, Th
 
 -- ---- entries by number
 
-abbrev place : Entry → ℕ
+abbrev pub place : Entry → ℕ
 place (size x) = x
 place (along s n) = offset s + n
 
@@ -43,7 +43,7 @@ entry-along After n h = let e : 2304 + n - 2304 ≡ n = omega arith in rw e at (
 entry-along Before n h = let e : 2816 + n - 2816 ≡ n = omega arith in rw e at (entry-before (2816 + n) (omega arith) (omega arith))
 entry-along Through n h = let e : 3328 + n - 3328 ≡ n = omega arith in rw e at (entry-through (3328 + n) (omega arith))
 
-place-entry : (x : ℕ) → place (entryAt x) ≡ x
+pub place-entry : (x : ℕ) → place (entryAt x) ≡ x
 place-entry x = go (decLt x 2304) (decLt x 2816) (decLt x 3328)
   where
     go : Dec (x < 2304) → Dec (x < 2816) → Dec (x < 3328) → place (entryAt x) ≡ x

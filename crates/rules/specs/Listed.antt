@@ -4,13 +4,13 @@ use mathlib.Core.Path.{_≡_}
 use mathlib.Core.Bool.{Bool, true, cond}
 use mathlib.Core.List.{List, [], _∷_}
 use lib.Dec.{ltb}
-use lib.ListN.{length}
+use lib.ListN.{length, replicate}
 use Rattle.table.specs.Record.{edgeFrom, edgeTo}
 use Rattle.table.specs.Program.{programOf}
 use Rattle.table.specs.declared.Counts.{Counts}
 use Rattle.sync.specs.Words.{member}
 use Rattle.size.specs.Size.{unbounded}
-use Rattle.rules.specs.Choice.{at}
+use Rattle.rules.specs.Choice.{at, unguarded}
 use Rattle.rules.specs.System.{Entry, size, Form, starts, steps, ends, takes, startForm, stepForm, endForm, totalNodeForm, totalEdgeForm, targetForm, formOf}
 use Rattle.rules.specs.Causes.{Given, RuleOf, entryCount, entryAt}
 use Rattle.rules.specs.declared.Known.{Known}
@@ -23,6 +23,10 @@ use Rattle.rules.specs.declared.sums.Sum.the-variants.{After, Before, Th
 -- What the system rests on, from what the code is given.
 abbrev pub given : List ℕ → List ℕ → Known → Given
 given t choice known = record { program = programOf t; synchronising = member (known .synchronising); reached = member (known .reached); choice = at choice }
+
+-- unguarded at every node: no choice has rules that this one has not
+abbrev pub everywhere : List ℕ
+everywhere = replicate 512 unguarded
 
 -- The rules of a kind go by number: a rule for each size of a node, for each node, edge or function.
 abbrev pub countOf : Counts → Kind → ℕ
@@ -85,6 +89,10 @@ placesOf c Edge = 3 * c .edges
 placesOf c Back = c .edges
 placesOf c Function = 3 * c .functions
 
+-- how many rules a table can have: one for each place of a group
+abbrev pub slots : Counts → ℕ
+slots c = 8 * c .nodes + 4 * c .edges + 3 * c .functions
+
 abbrev pub kindAt : Group → ℕ → Kind
 kindAt Node i = nodeKind (7 - i % 8)
 kindAt Edge i = edgeKind (i % 3)
@@ -130,6 +138,10 @@ otherOf w = w / 16777216 % 4096
 
 abbrev pub baseOf : ℕ → ℕ
 baseOf w = w / 68719476736
+
+-- Whether a choice has the rule that a word says: only the sizes of nodes rest on it.
+unfoldable pub inForce : List ℕ → List ℕ → Counts → ℕ → Bool
+inForce t choice c w = cond (ltb (headOf w) (4 * c .functions)) true (cond (ltb (headOf w) (4 * (c .functions + c .nodes))) (takes (programOf t) (at choice) (headOf w / 4 - c .functions) (headOf w % 4)) true)
 
 abbrev pub Says : ℕ → Form → Type 0
 Says w f = Means f (headOf w) (baseOf w) (partOf w) (otherOf w)
@@ -198,3 +210,9 @@ pub record Lists (S : Given) (rules : List ℕ) (count : ℕ) : Type 0 where
 pub record Named (rules : List ℕ) (count : ℕ) : Type 0 where
   pub heads : (j : ℕ) → j < count → headOf (at rules j) < entryCount
   pub parts : (j : ℕ) → j < count → partOf (at rules j) < entryCount
+
+-- The words are the rules of the widest choice.
+pub record Widest (t : List ℕ) (known : Known) (all : List ℕ) : Type 0 where
+  pub few : length all ≤ 8384
+  pub named : Named all (length all)
+  pub lists : Lists (given t everywhere known) all (length all)

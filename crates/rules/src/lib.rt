@@ -1,4 +1,5 @@
 // The rules of sizes as a list of words. Document 01, "Sizes and their rules".
+pub mod force;
 mod kinds;
 pub mod list;
 pub mod sums;

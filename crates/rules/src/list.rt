@@ -7,12 +7,13 @@ use crate::sums::Sum;
 use order::groups::end_of;
 use order::groups::order_all;
 use order::sure::get;
+use table::Counts;
 ghost use mathlib.Core.Path.{_≡_};
 ghost use Prim.Native.Nat.{_+_, _-_, _*_, _<_, _≤_};
 ghost use lib.ListN.{length};
 ghost use Rattle.table.specs.Answer.{Ready};
 ghost use Rattle.order.specs.Order.{Orders};
-ghost use Rattle.rules.specs.Listed.{nodeKind, nodeNumber, edgeKind, functionKind, placesOf, kindAt, numberAt, placeAt, blocks, source, headOf, partOf, otherOf, baseOf, Listed, Lengthens, Lists, Named};
+ghost use Rattle.rules.specs.Listed.{nodeKind, nodeNumber, edgeKind, functionKind, placesOf, slots, kindAt, numberAt, placeAt, blocks, source, headOf, partOf, otherOf, baseOf, Listed, Lengthens, Lists, Named};
 ghost use Rattle.rules.specs.Listed.{given};
 
 // A rule in one word: 12 bits for each entry, and the base above them.
@@ -110,6 +111,14 @@ fn placed(group: Group, functions: &[u16], nodes: &[u16], edges: &[u16], i: usiz
     }
 }
 
+// How many words the rules of a table can take.
+pub fn room(of: Counts) -> usize
+    requires { ⌜ slots of ≤ 8384 ⌝ }
+    ensures { λ r. ⌜ r ≡ slots of ⌝ }
+{
+    8 * of.nodes + 4 * of.edges + 3 * of.functions
+}
+
 // The q-th place from lo to hi, counted from the last one where rules run against the edges.
 fn place(group: Group, lo: usize, hi: usize, q: usize) -> usize
     requires { ⌜ lo + q < hi ⌝ }
@@ -138,7 +147,7 @@ fn list(
     rules: &mut [u64],
 ) -> usize
     requires { ⌜ Ready (now t) (known .of) × Orders (known .of) (now functions) (now nodes) (now edges) ⌝ }
-    requires { ⌜ (lo ≤ hi) × (hi ≤ placesOf (known .of) group) × (length (now rules) ≡ 8384) × (first + (hi - lo) ≤ 8384) ⌝ }
+    requires { ⌜ (lo ≤ hi) × (hi ≤ placesOf (known .of) group) × (first + (hi - lo) ≤ length (now rules)) ⌝ }
     ensures { λ r. ⌜ Lengthens (source (now (t .entry)) (now (choice .entry)) known (now (functions .entry)) (now (nodes .entry)) (now (edges .entry))) group lo hi (now (rules .entry)) first (now (rules .exit)) r ⌝ }
 {
     let mut end = first;
@@ -174,9 +183,9 @@ fn list_block(
 ) -> usize
     requires { ⌜ Ready (now t) (known .of) × Orders (known .of) (now functions) (now nodes) (now edges) ⌝ }
     requires { ⌜ (a ≤ c) × (c ≤ known .of .nodes) × (b ≤ d) × (d ≤ known .of .edges) × (f < known .of .functions) ⌝ }
-    requires { ⌜ (length (now rules) ≡ 8384) × (first ≤ 8 * a + 4 * b + 3 * f) ⌝ }
+    requires { ⌜ (slots (known .of) ≤ length (now rules)) × (first ≤ 8 * a + 4 * b + 3 * f) ⌝ }
     requires { ⌜ Listed (source (now t) (now choice) known (now functions) (now nodes) (now edges)) (blocks a b f) (now rules) first ⌝ }
-    ensures { λ r. ⌜ (length (now (rules .exit)) ≡ 8384) × (r ≤ 8 * c + 4 * d + 3 * (f + 1)) ⌝ }
+    ensures { λ r. ⌜ (length (now (rules .exit)) ≡ length (now (rules .entry))) × (r ≤ 8 * c + 4 * d + 3 * (f + 1)) ⌝ }
     ensures { λ r. ⌜ Listed (source (now (t .entry)) (now (choice .entry)) known (now (functions .entry)) (now (nodes .entry)) (now (edges .entry))) (blocks c d (f + 1)) (now (rules .exit)) r ⌝ }
 {
     let x = list(
@@ -243,8 +252,8 @@ fn list_all(
     edges: &[u16],
     rules: &mut [u64],
 ) -> usize
-    requires { ⌜ Ready (now t) (known .of) × Orders (known .of) (now functions) (now nodes) (now edges) × (length (now rules) ≡ 8384) ⌝ }
-    ensures { λ r. ⌜ (length (now (rules .exit)) ≡ 8384) × (r ≤ 8384) ⌝ }
+    requires { ⌜ Ready (now t) (known .of) × Orders (known .of) (now functions) (now nodes) (now edges) × (slots (known .of) ≤ length (now rules)) ⌝ }
+    ensures { λ r. ⌜ (length (now (rules .exit)) ≡ length (now (rules .entry))) × (r ≤ slots (known .of)) ⌝ }
     ensures { λ r. ⌜ Listed (source (now (t .entry)) (now (choice .entry)) known (now (functions .entry)) (now (nodes .entry)) (now (edges .entry))) (blocks (known .of .nodes) (known .of .edges) (known .of .functions)) (now (rules .exit)) r ⌝ }
 {
     let mut count: usize = 0;
@@ -279,8 +288,8 @@ fn list_all(
 
 // Lists the rules of a table and a choice, and gives how many words there are.
 pub fn list_rules(t: &[u8], choice: &[u8], known: Known, rules: &mut [u64]) -> usize
-    requires { ⌜ Ready (now t) (known .of) × (length (now rules) ≡ 8384) ⌝ }
-    ensures { λ r. ⌜ (length (now (rules .exit)) ≡ 8384) × (r ≤ 8384) × Named (now (rules .exit)) r ⌝ }
+    requires { ⌜ Ready (now t) (known .of) × (slots (known .of) ≤ length (now rules)) ⌝ }
+    ensures { λ r. ⌜ (length (now (rules .exit)) ≡ length (now (rules .entry))) × (r ≤ slots (known .of)) × Named (now (rules .exit)) r ⌝ }
     ensures { λ r. ⌜ Lists (given (now (t .entry)) (now (choice .entry)) known) (now (rules .exit)) r ⌝ }
 {
     let mut functions = [0u16; 64];

@@ -63,9 +63,5 @@ module _ (g : Program) (w : WellFormed g) (set : ℕ → Bool) (set-is : Synchro
     only-if = λ safe. t .only-if (subst (PostsBelow g s) (sym e) (safe-posts safe), safe-edges safe);
   }
 
-  module _ {reached : ℕ → Bool} (d : Derived g set reached c s) {r : Bool} (t : Tells r (Safe g c)) where
-    pub judged-safe : r ≡ true → Judged g set reached c s 1
-    judged-safe q = record { tells = (λ e. t .yes-if q, λ safe. refl); sizes-are = (set, set-is, x .least); derived = d }
-
-    pub judged-unsafe : r ≡ false → Judged g set reached c s 0
-    judged-unsafe q = record { tells = (λ e. absurd (omega arith), λ safe. absurd (not-both r (t .only-if safe) q)); sizes-are = (set, set-is, x .least); derived = d }
+  pub judged : (nodes : ℕ) {r : Bool} → nodes ≡ g .nodes → Tells r (PostsBelow g s nodes × EdgesBounded g after before) → {reached : ℕ → Bool} → Derived g set reached c s → Judged g set reached c s r
+  judged nodes e t d = record { tells = tells-safe nodes e t; sizes-are = (set, set-is, x .least); derived = d }

@@ -23,7 +23,7 @@ pub record Tells (r : Bool) (P : Type 0) : Type 0 where
   pub only-if : P → r ≡ true
 
 -- what the test of a choice says; and its sizes, from which those of a larger choice may be found
-pub record Judged (g : Program) (set reached : ℕ → Bool) (choice sizes : ℕ → ℕ) (safe : ℕ) : Type 0 where
-  pub tells : (safe ≡ 1 → Safe g choice) × (Safe g choice → safe ≡ 1)
+pub record Judged (g : Program) (set reached : ℕ → Bool) (choice sizes : ℕ → ℕ) (safe : Bool) : Type 0 where
+  pub tells : Tells safe (Safe g choice)
   pub sizes-are : LeastSizes g choice sizes
   pub derived : Derived g set reached choice sizes

@@ -1,22 +1,20 @@
 // Safety of a choice. Document 01, "Safety".
 use rules::Known;
-use size::Size;
 use sizes::admit::admit;
 use sizes::find::find_from;
 use sizes::find::put;
 use table::Counts;
 use table::program;
 ghost use mathlib.Core.Path.{_≡_};
-ghost use mathlib.Core.List.{map};
 ghost use lib.ListN.{length};
 ghost use Rattle.table.specs.Answer.{Ready};
 ghost use Rattle.table.specs.Program.{programOf};
 ghost use Rattle.sync.specs.Words.{member};
 ghost use Rattle.sync.specs.Answer.{Sets};
-ghost use Rattle.size.specs.Size.{valueOf};
 ghost use Rattle.rules.specs.Choice.{at};
 ghost use Rattle.sizes.specs.Call.{choiceOf};
 ghost use Rattle.rules.specs.System.{Derived};
+ghost use Rattle.rules.specs.Listed.{Widest};
 ghost use Rattle.sizes.specs.Known.{call};
 ghost use Rattle.safety.specs.Call.{Answers, LeavesSizes};
 ghost use Rattle.safety.specs.Test.{PostsBelow, EdgesBounded, Tells, Judged};
@@ -29,17 +27,16 @@ pub enum Answer {
 }
 
 // Condition 1: whether Post of the target of every spawn is 0.
-fn posts_zero(t: &[u8], of: Counts, sizes: [Size; 2304]) -> bool
-    requires { ⌜ Ready (now t) of ⌝ }
-    ensures { λ r. ⌜ Tells r (PostsBelow (programOf (now (t .entry))) (at (map valueOf sizes)) (of .nodes)) ⌝ }
+fn posts_zero(t: &[u8], of: Counts, sizes: &[u32]) -> bool
+    requires { ⌜ Ready (now t) of × (length (now sizes) ≡ 2304) ⌝ }
+    ensures { λ r. ⌜ Tells r (PostsBelow (programOf (now (t .entry))) (at (now (sizes .entry))) (of .nodes)) ⌝ }
 {
     let mut n: usize = 0;
     while n < of.nodes {
         let at = n;
         n += 1;
         if program::sort(t, of, at) == 2 {
-            let post = sizes[4 * program::target_of(t, of, at) + 1];
-            if post.number() != 0 {
+            if sizes[4 * program::target_of(t, of, at) + 1] != 0 {
                 return false;
             }
         }
@@ -67,9 +64,9 @@ fn edges_bounded(t: &[u8], of: Counts, after: &[u32], before: &[u32]) -> bool
 }
 
 // Whether both conditions hold.
-fn both_hold(t: &[u8], of: Counts, sizes: [Size; 2304], after: &[u32], before: &[u32]) -> bool
-    requires { ⌜ Ready (now t) of × (length (now after) ≡ 512) × (length (now before) ≡ 512) ⌝ }
-    ensures { λ r. ⌜ Tells r (PostsBelow (programOf (now (t .entry))) (at (map valueOf sizes)) (of .nodes) × EdgesBounded (programOf (now (t .entry))) (at (now (after .entry))) (at (now (before .entry)))) ⌝ }
+fn both_hold(t: &[u8], of: Counts, sizes: &[u32], after: &[u32], before: &[u32]) -> bool
+    requires { ⌜ Ready (now t) of × (length (now sizes) ≡ 2304) × (length (now after) ≡ 512) × (length (now before) ≡ 512) ⌝ }
+    ensures { λ r. ⌜ Tells r (PostsBelow (programOf (now (t .entry))) (at (now (sizes .entry))) (of .nodes) × EdgesBounded (programOf (now (t .entry))) (at (now (after .entry))) (at (now (before .entry)))) ⌝ }
 {
     if posts_zero(t, of, sizes) {
         return edges_bounded(t, of, after, before);
@@ -77,29 +74,33 @@ fn both_hold(t: &[u8], of: Counts, sizes: [Size; 2304], after: &[u32], before: &
     false
 }
 
-// Finds the sizes of a choice from those of a smaller one, and says whether it is safe: 1 if it is, and 0 if not. For the search
-// above: no size is written, and it tells the passes that finding them took.
+// Finds the sizes of a choice from those of a smaller one, and says whether it is safe. For the search above, which has the rules of the
+// widest choice at hand: it tells the passes that finding them took.
 pub fn judge(
     t: &[u8],
     choice: &[u8],
     known: Known,
-    from: [Size; 2304],
-    safe: &mut u32,
+    all: &[u64],
+    sizes: &mut [u32],
     passes: &mut u32,
-) -> [Size; 2304]
-    requires { ⌜ Ready (now t) (known .of) × Sets (programOf (now t)) (known .synchronising) (known .reached) ⌝ }
-    requires { ⌜ Derived (programOf (now t)) (member (known .synchronising)) (member (known .reached)) (choiceOf (now choice)) (at (map valueOf from)) ⌝ }
-    ensures { λ r. ⌜ Judged (programOf (now (t .entry))) (member (known .synchronising)) (member (known .reached)) (choiceOf (now (choice .entry))) (at (map valueOf r)) (now (safe .exit)) ⌝ }
+) -> bool
+    requires { ⌜ Ready (now t) (known .of) × Sets (programOf (now t)) (known .synchronising) (known .reached) × Widest (now t) known (now all) ⌝ }
+    requires { ⌜ (length (now sizes) ≡ 2304) × Derived (programOf (now t)) (member (known .synchronising)) (member (known .reached)) (choiceOf (now choice)) (at (now sizes)) ⌝ }
+    ensures { λ r. ⌜ Judged (programOf (now (t .entry))) (member (known .synchronising)) (member (known .reached)) (choiceOf (now (choice .entry))) (at (now (sizes .exit))) r ⌝ }
 {
     let mut after = [0u32; 512];
     let mut before = [0u32; 512];
-    let sizes = find_from(t, choice, known, from, &mut after, &mut before, passes);
-    if both_hold(t, known.of, sizes, &after, &before) {
-        *safe = 1;
-    } else {
-        *safe = 0;
-    }
-    sizes
+    find_from(
+        t,
+        choice,
+        known,
+        all,
+        sizes,
+        &mut after,
+        &mut before,
+        passes,
+    );
+    both_hold(t, known.of, sizes, &after, &before)
 }
 
 // The call for one choice: says whether it is safe, and writes its sizes.
@@ -113,10 +114,11 @@ pub fn safety(t: &[u8], choice: &[u8], out: &mut [u32]) -> Answer
     match answer {
         sizes::Answer::Refused(number, place) => Answer::Refused(number, place),
         sizes::Answer::Done => {
+            let mut found = [0u32; 2304];
             let mut after = [0u32; 512];
             let mut before = [0u32; 512];
-            let found = put(t, choice, known, &mut after, &mut before, out);
-            if both_hold(t, known.of, found, &after, &before) {
+            put(t, choice, known, &mut found, &mut after, &mut before, out);
+            if both_hold(t, known.of, &found, &after, &before) {
                 Answer::IsSafe
             } else {
                 Answer::IsUnsafe

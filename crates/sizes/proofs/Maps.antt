@@ -1,6 +1,6 @@
 -- An array of sizes, as the list of their values.
 use Prim.Native.Nat.{ℕ, zero, suc}
-use mathlib.Core.Path.{_≡_, refl, sym, ap}
+use mathlib.Core.Path.{_≡_, refl, sym, ap, ap₂}
 use mathlib.Core.List.{List, [], _∷_, map}
 use lib.ListN.{getD, set, replicate, List·getD-map}
 use Rattle.rules.specs.Choice.{at}
@@ -22,3 +22,7 @@ pub at-zeros : (n x : ℕ) → at (replicate n 0) x ≡ 0
 at-zeros zero x = refl
 at-zeros (suc n) zero = refl
 at-zeros (suc n) (suc x) = at-zeros n x
+
+pub map-zeros : (n : ℕ) (y : Size) → valueOf y ≡ 0 → map valueOf (replicate n y) ≡ replicate n 0
+map-zeros zero y e = refl
+map-zeros (suc n) y e = ap₂ (λ (v : ℕ) (l : List ℕ). v ∷ l) e (map-zeros n y e)

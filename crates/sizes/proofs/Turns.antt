@@ -10,6 +10,7 @@ use lib.Dec.{ltb}
 use lib.ListN.{length, getD, set, replicate, length-set, length-map, length-replicate}
 use lib.Seq.{getD-set-same, getD-set-other, set-getD}
 use borrow.Author.Tests.{lt-ltb, le-ltb}
+use Rattle.table.specs.declared.Counts.{Counts}
 use Rattle.size.specs.Size.{unbounded, cap, valueOf}
 use Rattle.size.specs.declared.Size.{Size}
 use Rattle.size.specs.declared.Size.the-variants.{Bytes}
@@ -17,7 +18,7 @@ use Rattle.rules.specs.Choice.{at}
 use Rattle.rules.specs.System.{Entry, size, along, Form, formOf, sumOf, gives, none, Derived, Solved}
 use Rattle.rules.specs.Causes.{Given, RuleOf, DerOf, offset, entryCount, entryAt, Ok, Chain, uncaused, Raised, kept, risen, leapt}
 use Rattle.rules.specs.Listed.{others, Means, headOf, partOf, otherOf, baseOf, Says, Lists}
-use Rattle.sizes.specs.Values.{Values, valuesOf, sums, valueAt, sizePlace, sumPlace, picked, putSums, putSizes, room, roomOf, Long, Turning, Round, left}
+use Rattle.sizes.specs.Values.{Values, valuesOf, sums, valueAt, sizePlace, sumPlace, picked, putSums, putSizes, room, roomOf, Long, Turning, Round, left, Starts, Taken}
 use Rattle.rules.specs.declared.sums.Sum.{Sum}
 use Rattle.rules.specs.declared.sums.Sum.the-variants.{After, Before, Through}
 use Rattle.sizes.proofs.Maps.{map-set, map-at, at-zeros}
@@ -346,9 +347,38 @@ room-le : (l : List ℕ) → room l ≤ 65536 * length l
 room-le [] = omega arith
 room-le (x ∷ l) = omega (arith, room-le l)
 
+pub cap-is : {x : ℕ} → x ≤ unbounded → cap x ≡ x
+cap-is h = omega arith
+
+-- the numbers handed in are taken over one after another
+pub taken-none : (from sizes : List ℕ) → sizes ≡ replicate 2304 0 → Taken 0 from sizes
+taken-none from sizes e = record {
+  long = ap length e ∙ length-replicate {A = ℕ} 2304 0;
+  taken = λ x h. absurd (omega arith);
+  rest = λ x h. ap (λ (l : List ℕ). at l x) e ∙ at-zeros 2304 x;
+}
+
+pub taken-next : (from : List ℕ) (sizes : List Size) (i : ℕ) (s : Size) → Taken i from (map valueOf sizes) → i < 2304 → valueOf s ≡ at from i → Taken (i + 1) from (map valueOf (set sizes i s))
+taken-next from sizes i s t h e = rw map-set (record {
+  long = length-set (map valueOf sizes) i (valueOf s) ∙ t .long;
+  taken = λ x k. go x k (ℕ-discrete x i);
+  rest = λ x k. getD-set-other (map valueOf sizes) i x (valueOf s) 0 (λ q. absurd (omega arith)) ∙ t .rest x (omega arith);
+})
+  where
+    go : (x : ℕ) → x < i + 1 → Dec (x ≡ i) → at (set (map valueOf sizes) i (valueOf s)) x ≡ at from x
+    go x k (yes q) = rw q (getD-set-same (map valueOf sizes) i (valueOf s) 0 (omega (arith, t .long)) ∙ e)
+    go x k (no q) = getD-set-other (map valueOf sizes) i x (valueOf s) 0 q ∙ t .taken x (omega (arith, q))
+
+pub taken-all : (of : Counts) (from sizes : List ℕ) (i : ℕ) → Starts of from → Taken i from sizes → i ≡ 4 * (of .functions + of .nodes) → (x : ℕ) → at sizes x ≡ at from x
+taken-all of from sizes i s t e x = go (decLt x i)
+  where
+    go : Dec (x < i) → at sizes x ≡ at from x
+    go (yes h) = t .taken x h
+    go (no h) = t .rest x (omega arith) ∙ sym (s .past x (omega arith))
+
 -- sums of zero, and no causes
-pub round-start : (rules : List ℕ) (count : ℕ) (sizes after before through : List Size) (k : List ℕ) → length sizes ≡ 2304 → map valueOf after ≡ replicate 512 0 → map valueOf before ≡ replicate 512 0 → map valueOf through ≡ replicate 512 0 → k ≡ replicate 3840 65535 → Round rules count (map valueOf sizes) 0 (valuesOf sizes after before through) k 0 0 1
-round-start rules count sizes after before through k l a b c e = record {
+pub round-start : (rules : List ℕ) (count : ℕ) (from : List ℕ) (sizes after before through : List Size) (k : List ℕ) → length (map valueOf sizes) ≡ 2304 → ((x : ℕ) → at (map valueOf sizes) x ≡ at from x) → map valueOf after ≡ replicate 512 0 → map valueOf before ≡ replicate 512 0 → map valueOf through ≡ replicate 512 0 → k ≡ replicate 3840 65535 → Round rules count from 0 (valuesOf sizes after before through) k 0 0 1
+round-start rules count from sizes after before through k sizes-long same a b c e = record {
   places = omega arith;
   later = omega arith;
   few = omega arith;
@@ -379,12 +409,9 @@ round-start rules count sizes after before through k l a b c e = record {
     zeros Before = b
     zeros Through = c
 
-    sizes-long : length (map valueOf sizes) ≡ 2304
-    sizes-long = length-map sizes valueOf ∙ l
-
     sums-long : (s : Sum) → length (sums s (valuesOf sizes after before through)) ≡ 512
     sums-long s = ap length (zeros s) ∙ length-replicate {A = ℕ} 512 0
 
-    all : (S : Given) → Derived (S .program) (S .synchronising) (S .reached) (S .choice) (at (map valueOf sizes)) → (x : Entry) → DerOf S x (valueAt (valuesOf sizes after before through) x)
-    all S d (size x) = d .each x
+    all : (S : Given) → Derived (S .program) (S .synchronising) (S .reached) (S .choice) (at from) → (x : Entry) → DerOf S x (valueAt (valuesOf sizes after before through) x)
+    all S d (size x) = rw (same x) (d .each x)
     all S d (along s n) = rw (ap (λ (q : List ℕ). at q n) (zeros s) ∙ at-zeros 512 n) none

@@ -5,6 +5,7 @@ use mathlib.Core.Bool.{cond}
 use mathlib.Core.List.{List, [], _∷_, map}
 use lib.Dec.{ltb}
 use lib.ListN.{length}
+use Rattle.table.specs.declared.Counts.{Counts}
 use Rattle.size.specs.Size.{unbounded, valueOf}
 use Rattle.size.specs.declared.Size.{Size}
 use Rattle.rules.specs.Choice.{at}
@@ -83,13 +84,27 @@ pub record Round (rules : List ℕ) (count : ℕ) (from : List ℕ) (i : ℕ) (v
 abbrev pub left : ℕ → ℕ → Values → ℕ → ℕ → ℕ
 left count i v clock started = 10000 * (roomOf v + min 1 (clock - started)) + (count - i)
 
+-- Numbers that the code takes its sizes from: those of the entries, and zeros past them.
+pub record Starts (of : Counts) (from : List ℕ) : Type 0 where
+  pub long : length from ≡ 2304
+  pub sized : (x : ℕ) → at from x ≤ unbounded
+  pub past : (x : ℕ) → 4 * (of .functions + of .nodes) ≤ x → at from x ≡ 0
+
+-- The first i of them are taken.
+pub record Taken (i : ℕ) (from : List ℕ) (sizes : List ℕ) : Type 0 where
+  pub long : length sizes ≡ 2304
+  pub taken : (x : ℕ) → x < i → at sizes x ≡ at from x
+  pub rest : (x : ℕ) → i ≤ x → at sizes x ≡ 0
+
 -- What going round the rules of a system comes to.
-pub record SolvedFor (S : Given) (sizes after before : List ℕ) : Type 0 where
+pub record SolvedFor (S : Given) (of : Counts) (sizes after before : List ℕ) : Type 0 where
   pub values : Values
   pub solved : Solved (S .program) (S .synchronising) (S .reached) (S .choice) (valueAt values)
-  pub sizes-are : values .sizes ≡ sizes
-  pub after-are : (n : ℕ) → n < 512 → at (values .after) n ≡ at after n
-  pub before-are : (n : ℕ) → n < 512 → at (values .before) n ≡ at before n
+  pub sizes-are : (x : ℕ) → x < 4 * (of .functions + of .nodes) → at (values .sizes) x ≡ at sizes x
+  pub after-are : (n : ℕ) → n < of .nodes → at (values .after) n ≡ at after n
+  pub before-are : (n : ℕ) → n < of .nodes → at (values .before) n ≡ at before n
 
-pub record Settles (rules : List ℕ) (count : ℕ) (from sizes after before : List ℕ) : Type 0 where
-  pub settles : (S : Given) → Lists S rules count → Derived (S .program) (S .synchronising) (S .reached) (S .choice) (at from) → SolvedFor S sizes after before
+pub record Settles (rules : List ℕ) (count : ℕ) (of : Counts) (from sizes after before : List ℕ) : Type 0 where
+  pub long : length sizes ≡ length from
+  pub past : (x : ℕ) → 4 * (of .functions + of .nodes) ≤ x → at sizes x ≡ 0
+  pub settles : (S : Given) → Lists S rules count → Derived (S .program) (S .synchronising) (S .reached) (S .choice) (at from) → SolvedFor S of sizes after before

@@ -28,9 +28,10 @@ pub fn sizes(t: &[u8], choice: &[u8], out: &mut [u32]) -> Answer
     match answer {
         Answer::Refused(number, place) => Answer::Refused(number, place),
         Answer::Done => {
+            let mut numbers = [0u32; 2304];
             let mut after = [0u32; 512];
             let mut before = [0u32; 512];
-            put(t, choice, known, &mut after, &mut before, out);
+            put(t, choice, known, &mut numbers, &mut after, &mut before, out);
             Answer::Done
         }
     }

@@ -1,6 +1,7 @@
 // The least solution of listed rules: entries rise until a turn over all rules raises nothing.
 use crate::causes::raised;
 use size::Size;
+use table::Counts;
 ghost use mathlib.Core.Path.{_≡_};
 ghost use mathlib.Core.List.{map};
 ghost use mathlib.Core.Bool.{cond};
@@ -11,21 +12,48 @@ ghost use Rattle.size.specs.Size.{valueOf, cap};
 ghost use Rattle.rules.specs.Choice.{at};
 ghost use Rattle.sizes.specs.Answer.{Written};
 ghost use Rattle.rules.specs.Listed.{headOf, partOf, otherOf, baseOf, Named};
-ghost use Rattle.sizes.specs.Values.{sizePlace, sumPlace, picked, Settles};
+ghost use Rattle.sizes.specs.Values.{sizePlace, sumPlace, picked, Starts, Settles};
+
+// By a call, so that arrays are cleared in words and not field by field.
+fn zero() -> Size
+    ensures { λ r. ⌜ valueOf r ≡ 0 ⌝ }
+{
+    Size::ZERO
+}
+
+// "every entry starts from zero"
+fn zero_sizes() -> [Size; 2304]
+    ensures { λ r. ⌜ map valueOf r ≡ replicate 2304 0 ⌝ }
+{
+    [zero(); 2304]
+}
 
 fn zero_sums() -> [Size; 512]
     ensures { λ r. ⌜ map valueOf r ≡ replicate 512 0 ⌝ }
 {
-    [Size::ZERO; 512]
+    [zero(); 512]
 }
 
-// Writes the sums of nodes as numbers.
-fn write_sums(sums: [Size; 512], out: &mut [u32])
-    requires { ⌜ 512 ≤ length (now out) ⌝ }
-    ensures { λ _. ⌜ Written 512 (at (map valueOf sums)) (now (out .entry)) (now (out .exit)) ⌝ }
+// Writes the first sizes as numbers.
+fn write_sizes(sizes: [Size; 2304], count: usize, out: &mut [u32])
+    requires { ⌜ (count ≤ 2304) × (count ≤ length (now out)) ⌝ }
+    ensures { λ _. ⌜ Written count (at (map valueOf sizes)) (now (out .entry)) (now (out .exit)) ⌝ }
 {
     let mut i: usize = 0;
-    while i < 512 {
+    while i < count {
+        let size = sizes[i];
+        out[i] = size.number();
+        i += 1;
+    }
+}
+
+// Writes the first sums as numbers.
+fn write_sums(sums: [Size; 512], count: usize, out: &mut [u32])
+    requires { ⌜ (count ≤ 512) × (count ≤ length (now out)) ⌝ }
+    ensures { λ _. ⌜ Written count (at (map valueOf sums)) (now (out .entry)) (now (out .exit)) ⌝ }
+{
+    let mut i: usize = 0;
+    while i < count {
         let sum = sums[i];
         out[i] = sum.number();
         i += 1;
@@ -101,30 +129,39 @@ fn second(part: usize, other: usize) -> usize
 }
 
 // Goes round the rules, from sizes that they derive and sums of zero, until a turn raises nothing. What is there at the start has no
-// causes. Beside the sizes it writes the sums that safety asks for, and how many turns it took.
+// causes. The sizes are taken from the numbers handed in, and written there; so are the sums that safety asks for, and how many turns
+// it took.
 pub(crate) fn solve(
     rules: &[u64],
     count: usize,
-    from: [Size; 2304],
+    of: Counts,
+    numbers: &mut [u32],
     causes: &mut [u16],
     stamps: &mut [u32],
     afters: &mut [u32],
     befores: &mut [u32],
     passes: &mut u32,
-) -> [Size; 2304]
+)
     requires { ⌜ (count ≤ length (now rules)) × (count ≤ 8384) × Named (now rules) count ⌝ }
+    requires { ⌜ (of .functions ≤ 64) × (of .nodes ≤ 512) × Starts of (now numbers) ⌝ }
     requires { ⌜ (now causes ≡ replicate 3840 65535) × (length (now stamps) ≡ 3841) ⌝ }
-    requires { ⌜ (512 ≤ length (now afters)) × (512 ≤ length (now befores)) ⌝ }
-    ensures { λ r. ⌜ Settles (now (rules .entry)) count (map valueOf from) (map valueOf r) (now (afters .exit)) (now (befores .exit)) ⌝ }
+    requires { ⌜ (of .nodes ≤ length (now afters)) × (of .nodes ≤ length (now befores)) ⌝ }
+    ensures { λ _. ⌜ Settles (now (rules .entry)) count of (now (numbers .entry)) (now (numbers .exit)) (now (afters .exit)) (now (befores .exit)) ⌝ }
 {
-    let mut sizes = from;
+    let entries = 4 * (of.functions + of.nodes);
+    let mut sizes = zero_sizes();
     let mut after = zero_sums();
     let mut before = zero_sums();
     let mut through = zero_sums();
+    let mut i: usize = 0;
+    while i < entries {
+        sizes[i] = Size::from_frame(numbers[i]);
+        i += 1;
+    }
     let mut clock: u32 = 0;
     let mut started: u32 = 0;
     let mut turns: u32 = 1;
-    let mut i: usize = 0;
+    i = 0;
     loop {
         if i < count {
             let rule = unpacked(rules[i]);
@@ -165,10 +202,11 @@ pub(crate) fn solve(
             }
         } else {
             if clock == started {
-                write_sums(after, afters);
-                write_sums(before, befores);
+                write_sizes(sizes, entries, numbers);
+                write_sums(after, of.nodes, afters);
+                write_sums(before, of.nodes, befores);
                 *passes = turns;
-                return sizes;
+                return;
             }
             started = clock;
             stamps[3840] = started;

@@ -17,10 +17,19 @@ fn show(name: &[u8], t: &[u8], choice: &[u8]) {
     let answer = admitted.answer;
     match answer {
         Answer::Done => {
+            let mut numbers = [0u32; 2304];
             let mut after = [0u32; 512];
             let mut before = [0u32; 512];
             let mut passes: u32 = 0;
-            find(t, choice, known, &mut after, &mut before, &mut passes);
+            find(
+                t,
+                choice,
+                known,
+                &mut numbers,
+                &mut after,
+                &mut before,
+                &mut passes,
+            );
             io::print_decimal(STDOUT_FILENO, passes as u64);
             io::write_all(STDOUT_FILENO, b" passes");
         }

@@ -1,3 +1,4 @@
+use mathlib.Core.Path.{refl}
 use native.Mathlib.Omega.{arith}
 use Rattle.sizes.specs.Known.{call}
 use Rattle.sizes.proofs.Calls.{admission}
@@ -20,12 +21,15 @@ slice-aggregate-find c = search needs
 slice-aggregate-find-2 : tie.Need-slice-aggregate-find-2
 slice-aggregate-find-2 c = search needs
 
+slice-aggregate-find-3 : tie.Need-slice-aggregate-find-3
+slice-aggregate-find-3 c = search needs
+
 find-requires : tie.Need-find-requires
 find-requires c κs =
-    let a = c .before .before .before .before .before .before .before .before .before .args in
-    let d = c .before .before .before .before .before .before .admit in
-    let q = admission (call (a .t .now) (a .choice .now) 2304) (d .result .answer) (d .result .known) (c .before .before .before .enum-told .given .1) (d .ensures .0) (d .ensures .1) in
-    ((q .ready, q .sets), (omega arith, omega arith))
+    let a = c .before .before .before .before .before .before .before .before .before .before .args in
+    let d = c .before .before .before .before .before .before .before .admit in
+    let q = admission (call (a .t .now) (a .choice .now) 2304) (d .result .answer) (d .result .known) (c .before .before .before .before .enum-told .given .1) (d .ensures .0) (d .ensures .1) in
+    ((q .ready, q .sets), (refl, omega arith, omega arith))
 
 returns : tie.Need-returns
 returns c = search needs
@@ -42,6 +46,7 @@ nagbiro-one-effort-spec =
     enum-told
     slice-aggregate-find
     slice-aggregate-find-2
+    slice-aggregate-find-3
     find-requires
     returns
     returns-2)

@@ -1,7 +1,6 @@
-use mathlib.Core.Path.{refl}
-use native.Mathlib.Omega.{arith}
-use Rattle.choice.specs.Walk.{all-kept}
 use borrow.Author.Needs.{needs}
+use mathlib.Core.Path.{refl}
+use Rattle.choice.specs.Walk.{all-kept}
 use Rattle.choice.proofs.search.at_once.Statement.{statement}
 use Rattle.choice.proofs.search.at_once.Tie as tie
 
@@ -12,7 +11,7 @@ same-length : tie.Need-same-length
 same-length c = search needs
 
 returns : tie.Need-returns
-returns c = (all-kept {done = 0} (λ e. absurd (omega (arith, e))) refl, c .before .before .before .before .before .pre .1 .1)
+returns c = (all-kept refl refl, c .before .before .before .before .before .before .before .pre .1 .1)
 
 add-if2 : tie.Need-add-if2
 add-if2 c = search needs
@@ -21,7 +20,7 @@ same-length-2 : tie.Need-same-length-2
 same-length-2 c = search needs
 
 returns-2 : tie.Need-returns-2
-returns-2 c = (all-kept {done = 0} (λ e. absurd (omega (arith, e))) refl, c .before .before .before .before .before .before .pre .1 .1)
+returns-2 c = (all-kept refl refl, c .before .before .before .before .before .before .before .before .pre .1 .1)
 
 all-at-once-requires : tie.Need-all-at-once-requires
 all-at-once-requires c κs = search needs
@@ -34,6 +33,9 @@ wrapping-add-u32-requires-2 c κs = search needs
 
 same-length-3 : tie.Need-same-length-3
 same-length-3 c = search needs
+
+same-length-4 : tie.Need-same-length-4
+same-length-4 c = search needs
 
 returns-3 : tie.Need-returns-3
 returns-3 c = search needs
@@ -52,4 +54,5 @@ at-once-spec =
     wrapping-add-u32-requires
     wrapping-add-u32-requires-2
     same-length-3
+    same-length-4
     returns-3)

@@ -1,74 +1,84 @@
-use mathlib.Core.Path.{_∙_}
-use mathlib.Core.List.{map}
-use native.Mathlib.Omega.{arith}
-use Rattle.table.specs.Program.{programOf}
-use Rattle.table.proofs.Ready.{few-nodes}
-use Rattle.size.specs.Size.{valueOf}
-use Rattle.rules.specs.Choice.{at}
-use Rattle.choice.proofs.Walking.{others-stay}
-use Rattle.choice.proofs.Winning.{unmerged-is, unmerged-ready, chosen}
 use borrow.Author.Needs.{needs}
+use mathlib.Core.Path.{sym}
+use native.Mathlib.Omega.{arith}
+use lib.Seq.{length-take-le}
+use Rattle.rules.proofs.Bounds.{slots-few}
 use Rattle.choice.proofs.search.choose.Statement.{statement}
 use Rattle.choice.proofs.search.choose.Tie as tie
 
-slice-aggregate-in-order : tie.Need-slice-aggregate-in-order
-slice-aggregate-in-order c = search needs
+room-requires : tie.Need-room-requires
+room-requires c κs = slots-few (c .before .before .before .pre .0 .0)
 
-in-order-requires : tie.Need-in-order-requires
-in-order-requires c κs = search needs
+slice-aggregate-list-widest : tie.Need-slice-aggregate-list-widest
+slice-aggregate-list-widest c = search needs
 
-unmerge-requires : tie.Need-unmerge-requires
-unmerge-requires c κs = search needs
+list-widest-requires : tie.Need-list-widest-requires
+list-widest-requires c κs = search needs
 
-sizes-of-requires : tie.Need-sizes-of-requires
-sizes-of-requires c κs = search needs
+array-share-prefix-rules : tie.Need-array-share-prefix-rules
+array-share-prefix-rules c = search needs
 
-slice-aggregate-walk : tie.Need-slice-aggregate-walk
-slice-aggregate-walk c = search needs
+slice-aggregate-search : tie.Need-slice-aggregate-search
+slice-aggregate-search c =
+    let l = c .before .before .list-widest in
+    sym (length-take-le (l .result) (l .last .1 .1 .0) (omega (arith, l .ensures .0, c .before .before .before .before .if1 .taken, c .before .before .before .before .before .room .ensures)))
 
-walk-requires : tie.Need-walk-requires
-walk-requires c κs =
-    let a = c .before .before .before .before .before .before .before .before .before .before .before .before .before .before .before .before .args in
-    let p = c .before .before .before .before .before .before .before .before .before .before .before .before .before .before .before .before .pre in
-    let o = c .before .before .before .before .before .before .before .before .before .before .before .before .in-order .ensures in
-    let u = c .before .before .before .before .before .before .before .before .before .unmerge .ensures in
-    let s = c .before .before .before .before .sizes-of .ensures in
-    (p .0, ((omega (arith, o .0 .0, o .0 .1, few-nodes (a .t .now) (a .known .of) (p .0 .0)), o .1 .0), ((omega arith, omega (arith, u .long, p .1), unmerged-ready (a .t .now) (a .known .of) (p .0 .0) u (at (map valueOf (c .before .before .before .before .sizes-of .result))) (s .sizes-are), unmerged-is (a .t .now) (a .known .of) (p .0 .0) u .others), s)))
+search-requires : tie.Need-search-requires
+search-requires c κs = search needs
 
-slice-aggregate-walk-2 : tie.Need-slice-aggregate-walk-2
-slice-aggregate-walk-2 c = search needs
+slice-aggregate-list-widest-2 : tie.Need-slice-aggregate-list-widest-2
+slice-aggregate-list-widest-2 c = search needs
 
-walk-requires-2 : tie.Need-walk-requires-2
-walk-requires-2 c κs =
-    let a = c .before .before .before .before .before .before .before .before .before .before .before .before .before .before .before .before .before .before .before .before .before .before .before .args in
-    let p = c .before .before .before .before .before .before .before .before .before .before .before .before .before .before .before .before .before .before .before .before .before .before .before .pre in
-    let o = c .before .before .before .before .before .before .before .before .before .before .before .before .before .before .before .before .before .before .before .in-order .ensures in
-    let u = c .before .before .before .before .before .before .before .before .before .before .before .before .before .before .before .before .unmerge .ensures in
-    let w = c .before .before .before .before .before .before .walk .ensures in
-    (p .0, ((omega (arith, o .0 .0, o .0 .1, few-nodes (a .t .now) (a .known .of) (p .0 .0)), o .1 .0), ((omega arith, omega (arith, u .long, w .1 .0 .long, p .1), w .0 .safe, others-stay (programOf (a .t .now)) 2 (c .before .before .before .before .before .before .before .before .before .before .before .before .before .before .before .before .before .before .before .in-order .result) _ _ _ (o .1 .0) (w .0) (unmerged-is (a .t .now) (a .known .of) (p .0 .0) u .others)), w .1 .1)))
+list-widest-requires-2 : tie.Need-list-widest-requires-2
+list-widest-requires-2 c κs = (c .before .before .before .before .before .before .pre .0 .0, slots-few (c .before .before .before .before .before .before .pre .0 .0))
+
+array-share-prefix-rules-2 : tie.Need-array-share-prefix-rules-2
+array-share-prefix-rules-2 c = omega (arith, c .before .list-widest2 .ensures .0, slots-few (c .before .before .before .before .before .before .before .before .pre .0 .0))
+
+slice-aggregate-search-2 : tie.Need-slice-aggregate-search-2
+slice-aggregate-search-2 c =
+    let l = c .before .before .list-widest2 in
+    sym (length-take-le (l .result) (l .last .1 .1 .0) (omega (arith, l .ensures .0, slots-few (c .before .before .before .before .before .before .before .before .before .pre .0 .0))))
+
+search-requires-2 : tie.Need-search-requires-2
+search-requires-2 c κs = search needs
 
 same-length : tie.Need-same-length
-same-length c = c .before .before .walk2 .ensures .1 .0 .long ∙ c .before .before .before .before .before .before .before .before .before .walk .ensures .1 .0 .long ∙ c .before .before .before .before .before .before .before .before .before .before .before .before .before .before .before .before .before .before .before .unmerge .ensures .long
+same-length c = search needs
+
+same-length-2 : tie.Need-same-length-2
+same-length-2 c = search needs
 
 returns : tie.Need-returns
-returns c =
-    let a = c .before .before .before .before .before .before .before .before .before .before .before .before .before .before .before .before .before .before .before .before .before .before .before .before .before .before .args in
-    let p = c .before .before .before .before .before .before .before .before .before .before .before .before .before .before .before .before .before .before .before .before .before .before .before .before .before .before .pre in
-    let one = c .before .before .before .before .before .before .before .before .before .walk .ensures in
-    let two = c .before .before .walk2 .ensures in
-    chosen (a .t .now) (a .known .of) (p .0 .0) (c .before .before .before .before .before .before .before .before .before .before .before .before .before .before .before .before .before .before .before .before .before .before .in-order .result) _ (c .before .before .before .before .before .before .before .before .before .before .before .before .before .before .before .before .before .before .before .before .before .before .in-order .ensures .1 .0) (c .before .before .before .before .before .before .before .before .before .before .before .before .before .before .before .before .before .before .before .unmerge .ensures) (one .1 .0) (two .1 .0) (one .0) (two .0) (at (map valueOf (c .before .before .walk2 .result))) (two .1 .1 .sizes-are)
+returns c = search needs
+
+same-length-3 : tie.Need-same-length-3
+same-length-3 c = search needs
+
+same-length-4 : tie.Need-same-length-4
+same-length-4 c = search needs
+
+returns-2 : tie.Need-returns-2
+returns-2 c = search needs
 
 pub choose-spec : {M : Type 1} → statement M
 choose-spec =
     tie.close
     (tie.spec
-    slice-aggregate-in-order
-    in-order-requires
-    unmerge-requires
-    sizes-of-requires
-    slice-aggregate-walk
-    walk-requires
-    slice-aggregate-walk-2
-    walk-requires-2
+    room-requires
+    slice-aggregate-list-widest
+    list-widest-requires
+    array-share-prefix-rules
+    slice-aggregate-search
+    search-requires
+    slice-aggregate-list-widest-2
+    list-widest-requires-2
+    array-share-prefix-rules-2
+    slice-aggregate-search-2
+    search-requires-2
     same-length
-    returns)
+    same-length-2
+    returns
+    same-length-3
+    same-length-4
+    returns-2)

@@ -48,7 +48,7 @@ packed-requires c κs =
 mul-rules : tie.Need-mul-rules Inv-loop μ-loop
 mul-rules c =
     let L = c .before .before .before .before .before .before .loop in
-    omega (arith, L .inv .1, L .inv .2, c .before .before .before .before .before .loop-test .taken, c .before .before .before .before .before .before .before .before .before .before .before .before .before .pre .1)
+    omega (arith, L .inv .1, L .inv .2, c .before .before .before .before .before .loop-test .taken, c .before .before .before .before .before .before .before .before .before .before .before .before .before .pre .1, c .before .before .before .before .before .before .before .before .before .before .before .before .before .good)
 
 slice-write-rules : tie.Need-slice-write-rules Inv-loop μ-loop
 slice-write-rules c =
@@ -58,7 +58,7 @@ slice-write-rules c =
 add-end : tie.Need-add-end Inv-loop μ-loop
 add-end c =
     let L = c .before .before .before .before .before .before .loop in
-    omega (arith, L .inv .1, L .inv .2, c .before .before .before .before .before .loop-test .taken, c .before .before .before .before .before .before .before .before .before .before .before .before .before .pre .1)
+    omega (arith, L .inv .1, L .inv .2, c .before .before .before .before .before .loop-test .taken, c .before .before .before .before .before .before .before .before .before .before .before .before .before .pre .1, c .before .before .before .before .before .before .before .before .before .before .before .before .before .good)
 
 loop-less : tie.Need-loop-less Inv-loop μ-loop
 loop-less c = search needs

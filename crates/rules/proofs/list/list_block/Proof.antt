@@ -2,78 +2,66 @@ use Prim.Native.Nat.{_+_, _-_, _*_}
 use mathlib.Core.Path.{refl, _∙_}
 use native.Mathlib.Omega.{arith}
 use borrow.Author.Needs.{needs}
-use Rattle.table.proofs.Laws.{few-edges}
-use Rattle.table.proofs.Ready.{few-functions, few-nodes}
 use Rattle.rules.specs.Listed.{upTo, blocks}
 use Rattle.rules.specs.declared.list.Group.the-variants.{Node, Edge, Back}
+use Rattle.rules.proofs.Bounds.{slots-few}
 use Rattle.rules.proofs.list.list_block.Statement.{statement}
 use Rattle.rules.proofs.list.list_block.Tie as tie
 
 mul-list : tie.Need-mul-list
 mul-list c =
-    let a = c .before .before .before .before .before .before .args in
     let p = c .before .before .before .before .before .before .pre in
-    omega (arith, p .1 .0, few-nodes (a .t .now) (a .known .of) (p .0 .0), few-edges (a .t .now) (p .0 .0 .accepted-is), p .0 .0 .counts-are .edges-are, few-functions (a .t .now) (a .known .of) (p .0 .0))
+    omega (arith, p .1 .0, slots-few (p .0 .0))
 
 mul-list-2 : tie.Need-mul-list-2
 mul-list-2 c =
-    let a = c .before .before .before .before .before .before .args in
     let p = c .before .before .before .before .before .before .pre in
-    omega (arith, p .1 .0, few-nodes (a .t .now) (a .known .of) (p .0 .0), few-edges (a .t .now) (p .0 .0 .accepted-is), p .0 .0 .counts-are .edges-are, few-functions (a .t .now) (a .known .of) (p .0 .0))
+    omega (arith, p .1 .0, slots-few (p .0 .0))
 
 list-requires : tie.Need-list-requires
 list-requires c κs =
-    let a = c .before .before .before .before .before .before .before .args in
     let p = c .before .before .before .before .before .before .before .pre in
-    (p .0, (omega (arith, p .1 .0), omega (arith, p .1 .0), (omega (arith, p .1 .1 .0 .0)), omega (arith, p .1 .0, p .1 .1 .0 .1, few-nodes (a .t .now) (a .known .of) (p .0 .0), few-edges (a .t .now) (p .0 .0 .accepted-is), p .0 .0 .counts-are .edges-are, few-functions (a .t .now) (a .known .of) (p .0 .0))))
+    (p .0, (omega (arith, p .1 .0), omega (arith, p .1 .0), omega (arith, p .1 .0, p .1 .1 .0)))
 
 mul-list-3 : tie.Need-mul-list-3
 mul-list-3 c =
-    let a = c .before .before .before .before .before .before .before .before .before .before .args in
     let p = c .before .before .before .before .before .before .before .before .before .before .pre in
-    omega (arith, p .1 .0, few-nodes (a .t .now) (a .known .of) (p .0 .0), few-edges (a .t .now) (p .0 .0 .accepted-is), p .0 .0 .counts-are .edges-are, few-functions (a .t .now) (a .known .of) (p .0 .0))
+    omega (arith, p .1 .0, slots-few (p .0 .0))
 
 mul-list-4 : tie.Need-mul-list-4
 mul-list-4 c =
-    let a = c .before .before .before .before .before .before .before .before .before .before .args in
     let p = c .before .before .before .before .before .before .before .before .before .before .pre in
-    omega (arith, p .1 .0, few-nodes (a .t .now) (a .known .of) (p .0 .0), few-edges (a .t .now) (p .0 .0 .accepted-is), p .0 .0 .counts-are .edges-are, few-functions (a .t .now) (a .known .of) (p .0 .0))
+    omega (arith, p .1 .0, slots-few (p .0 .0))
 
 list-requires-2 : tie.Need-list-requires-2
 list-requires-2 c κs =
-    let a = c .before .before .before .before .before .before .before .before .before .before .before .args in
     let p = c .before .before .before .before .before .before .before .before .before .before .before .pre in
-    (p .0, (omega (arith, p .1 .0), omega (arith, p .1 .0), (omega (arith, p .1 .1 .0 .0, c .before .before .before .list .ensures .long, c .before .before .before .list .ensures .few)), omega (arith, p .1 .0, p .1 .1 .0 .1, few-nodes (a .t .now) (a .known .of) (p .0 .0), few-edges (a .t .now) (p .0 .0 .accepted-is), p .0 .0 .counts-are .edges-are, few-functions (a .t .now) (a .known .of) (p .0 .0), c .before .before .before .list .ensures .long, c .before .before .before .list .ensures .few)))
+    (p .0, (omega (arith, p .1 .0), omega (arith, p .1 .0), omega (arith, p .1 .0, p .1 .1 .0, c .before .before .before .list .ensures .long, c .before .before .before .list .ensures .few)))
 
 list-requires-3 : tie.Need-list-requires-3
 list-requires-3 c κs =
-    let a = c .before .before .before .before .before .before .before .before .before .before .before .before .before .before .before .args in
     let p = c .before .before .before .before .before .before .before .before .before .before .before .before .before .before .before .pre in
-    (p .0, (omega (arith, p .1 .0), omega (arith, p .1 .0), (omega (arith, p .1 .1 .0 .0, c .before .before .before .before .before .before .before .list .ensures .long, c .before .before .before .before .before .before .before .list .ensures .few, c .before .before .before .list2 .ensures .long, c .before .before .before .list2 .ensures .few)), omega (arith, p .1 .0, p .1 .1 .0 .1, few-nodes (a .t .now) (a .known .of) (p .0 .0), few-edges (a .t .now) (p .0 .0 .accepted-is), p .0 .0 .counts-are .edges-are, few-functions (a .t .now) (a .known .of) (p .0 .0), c .before .before .before .before .before .before .before .list .ensures .long, c .before .before .before .before .before .before .before .list .ensures .few, c .before .before .before .list2 .ensures .long, c .before .before .before .list2 .ensures .few)))
+    (p .0, (omega (arith, p .1 .0), omega (arith, p .1 .0), omega (arith, p .1 .0, p .1 .1 .0, c .before .before .before .before .before .before .before .list .ensures .long, c .before .before .before .before .before .before .before .list .ensures .few, c .before .before .before .list2 .ensures .long, c .before .before .before .list2 .ensures .few)))
 
 mul-list-5 : tie.Need-mul-list-5
 mul-list-5 c =
-    let a = c .before .before .before .before .before .before .before .before .before .before .before .before .before .before .before .before .before .before .args in
     let p = c .before .before .before .before .before .before .before .before .before .before .before .before .before .before .before .before .before .before .pre in
-    omega (arith, p .1 .0, few-nodes (a .t .now) (a .known .of) (p .0 .0), few-edges (a .t .now) (p .0 .0 .accepted-is), p .0 .0 .counts-are .edges-are, few-functions (a .t .now) (a .known .of) (p .0 .0))
+    omega (arith, p .1 .0, slots-few (p .0 .0))
 
 add-list : tie.Need-add-list
 add-list c =
-    let a = c .before .before .before .before .before .before .before .before .before .before .before .before .before .before .before .before .before .before .args in
     let p = c .before .before .before .before .before .before .before .before .before .before .before .before .before .before .before .before .before .before .pre in
-    omega (arith, p .1 .0, few-nodes (a .t .now) (a .known .of) (p .0 .0), few-edges (a .t .now) (p .0 .0 .accepted-is), p .0 .0 .counts-are .edges-are, few-functions (a .t .now) (a .known .of) (p .0 .0))
+    omega (arith, p .1 .0, slots-few (p .0 .0))
 
 mul-list-6 : tie.Need-mul-list-6
 mul-list-6 c =
-    let a = c .before .before .before .before .before .before .before .before .before .before .before .before .before .before .before .before .before .before .args in
     let p = c .before .before .before .before .before .before .before .before .before .before .before .before .before .before .before .before .before .before .pre in
-    omega (arith, p .1 .0, few-nodes (a .t .now) (a .known .of) (p .0 .0), few-edges (a .t .now) (p .0 .0 .accepted-is), p .0 .0 .counts-are .edges-are, few-functions (a .t .now) (a .known .of) (p .0 .0))
+    omega (arith, p .1 .0, slots-few (p .0 .0))
 
 list-requires-4 : tie.Need-list-requires-4
 list-requires-4 c κs =
-    let a = c .before .before .before .before .before .before .before .before .before .before .before .before .before .before .before .before .before .before .before .args in
     let p = c .before .before .before .before .before .before .before .before .before .before .before .before .before .before .before .before .before .before .before .pre in
-    (p .0, (omega (arith, p .1 .0), omega (arith, p .1 .0), (omega (arith, p .1 .1 .0 .0, c .before .before .before .before .before .before .before .before .before .before .before .list .ensures .long, c .before .before .before .before .before .before .before .before .before .before .before .list .ensures .few, c .before .before .before .before .before .before .before .list2 .ensures .long, c .before .before .before .before .before .before .before .list2 .ensures .few, c .before .before .before .list3 .ensures .long, c .before .before .before .list3 .ensures .few)), omega (arith, p .1 .0, p .1 .1 .0 .1, few-nodes (a .t .now) (a .known .of) (p .0 .0), few-edges (a .t .now) (p .0 .0 .accepted-is), p .0 .0 .counts-are .edges-are, few-functions (a .t .now) (a .known .of) (p .0 .0), c .before .before .before .before .before .before .before .before .before .before .before .list .ensures .long, c .before .before .before .before .before .before .before .before .before .before .before .list .ensures .few, c .before .before .before .before .before .before .before .list2 .ensures .long, c .before .before .before .before .before .before .before .list2 .ensures .few, c .before .before .before .list3 .ensures .long, c .before .before .before .list3 .ensures .few)))
+    (p .0, (omega (arith, p .1 .0), omega (arith, p .1 .0), omega (arith, p .1 .0, p .1 .1 .0, c .before .before .before .before .before .before .before .before .before .before .before .list .ensures .long, c .before .before .before .before .before .before .before .before .before .before .before .list .ensures .few, c .before .before .before .before .before .before .before .list2 .ensures .long, c .before .before .before .before .before .before .before .list2 .ensures .few, c .before .before .before .list3 .ensures .long, c .before .before .before .list3 .ensures .few)))
 
 same-length : tie.Need-same-length
 same-length c = search needs

@@ -1,22 +1,50 @@
-use mathlib.Core.List.{map}
+use Prim.Native.Nat.{ℕ}
+use mathlib.Core.Path.{ap, _∙_}
+use native.Mathlib.Omega.{arith}
+use lib.ListN.{length, length-replicate}
 use Rattle.table.specs.Program.{programOf}
 use Rattle.sync.specs.Words.{member}
-use Rattle.size.specs.Size.{valueOf}
 use Rattle.rules.specs.Choice.{at}
+use Rattle.rules.proofs.Bounds.{slots-few}
 use Rattle.sizes.proofs.Laws.{derived-zeros}
 use borrow.Author.Needs.{needs}
 use Rattle.sizes.proofs.find.find.Statement.{statement}
 use Rattle.sizes.proofs.find.find.Tie as tie
 
-zero-sizes-requires : tie.Need-zero-sizes-requires
-zero-sizes-requires c κs = search needs
+room-requires : tie.Need-room-requires
+room-requires c κs = slots-few (c .before .before .before .before .before .pre .0 .0)
 
-find-from-requires : tie.Need-find-from-requires
-find-from-requires c κs =
-    let a = c .before .before .before .before .before .before .before .before .args in
-    let z = c .before .before .before .zero-sizes in
-    let zeros = derived-zeros (programOf (a .t .now)) (member (a .known .synchronising)) (member (a .known .reached)) (at (a .choice .now)) (map valueOf (z .result)) 2304 (z .ensures) in
-    (c .before .before .before .before .before .before .before .before .pre .0, (zeros, c .before .before .before .before .before .before .before .before .pre .1))
+slice-aggregate-list-rules : tie.Need-slice-aggregate-list-rules
+slice-aggregate-list-rules c = search needs
+
+list-rules-requires : tie.Need-list-rules-requires
+list-rules-requires c κs = search needs
+
+slice-aggregate-settle : tie.Need-slice-aggregate-settle
+slice-aggregate-settle c = search needs
+
+settle-requires : tie.Need-settle-requires
+settle-requires c κs =
+    let a = c .before .before .before .before .before .before .before .before .before .before .before .before .before .before .before .args in
+    let p = c .before .before .before .before .before .before .before .before .before .before .before .before .before .before .before .pre in
+    let l = c .before .before .before .before .before .before .list-rules .ensures in
+    (p .0, ((omega (arith, l .0 .0, c .before .before .before .before .before .before .before .before .if1 .taken, c .before .before .before .before .before .before .before .before .before .room .ensures, l .0 .1), omega (arith, l .0 .1, slots-few (p .0 .0)), l .0 .2, l .1), ((ap length (p .1 .0) ∙ length-replicate {A = ℕ} 2304 0, derived-zeros (programOf (a .t .now)) (member (a .known .synchronising)) (member (a .known .reached)) (at (a .choice .now)) (a .numbers .now) 2304 (p .1 .0)), (p .1 .1, p .1 .2))))
+
+slice-aggregate-list-rules-2 : tie.Need-slice-aggregate-list-rules-2
+slice-aggregate-list-rules-2 c = search needs
+
+list-rules-requires-2 : tie.Need-list-rules-requires-2
+list-rules-requires-2 c κs = (c .before .before .before .before .before .before .before .before .pre .0 .0, slots-few (c .before .before .before .before .before .before .before .before .pre .0 .0))
+
+slice-aggregate-settle-2 : tie.Need-slice-aggregate-settle-2
+slice-aggregate-settle-2 c = search needs
+
+settle-requires-2 : tie.Need-settle-requires-2
+settle-requires-2 c κs =
+    let a = c .before .before .before .before .before .before .before .before .before .before .before .before .before .before .before .args in
+    let p = c .before .before .before .before .before .before .before .before .before .before .before .before .before .before .before .pre in
+    let l = c .before .before .before .before .before .before .list-rules2 .ensures in
+    (p .0, ((omega (arith, l .0 .0, slots-few (p .0 .0), l .0 .1), omega (arith, l .0 .1, slots-few (p .0 .0)), l .0 .2, l .1), ((ap length (p .1 .0) ∙ length-replicate {A = ℕ} 2304 0, derived-zeros (programOf (a .t .now)) (member (a .known .synchronising)) (member (a .known .reached)) (at (a .choice .now)) (a .numbers .now) 2304 (p .1 .0)), (p .1 .1, p .1 .2))))
 
 same-length : tie.Need-same-length
 same-length c = search needs
@@ -24,9 +52,42 @@ same-length c = search needs
 same-length-2 : tie.Need-same-length-2
 same-length-2 c = search needs
 
+same-length-3 : tie.Need-same-length-3
+same-length-3 c = search needs
+
 returns : tie.Need-returns
 returns c = search needs
 
+same-length-4 : tie.Need-same-length-4
+same-length-4 c = search needs
+
+same-length-5 : tie.Need-same-length-5
+same-length-5 c = search needs
+
+same-length-6 : tie.Need-same-length-6
+same-length-6 c = search needs
+
+returns-2 : tie.Need-returns-2
+returns-2 c = search needs
+
 pub find-spec : {M : Type 1} → statement M
 find-spec =
-    tie.close (tie.spec zero-sizes-requires find-from-requires same-length same-length-2 returns)
+    tie.close
+    (tie.spec
+    room-requires
+    slice-aggregate-list-rules
+    list-rules-requires
+    slice-aggregate-settle
+    settle-requires
+    slice-aggregate-list-rules-2
+    list-rules-requires-2
+    slice-aggregate-settle-2
+    settle-requires-2
+    same-length
+    same-length-2
+    same-length-3
+    returns
+    same-length-4
+    same-length-5
+    same-length-6
+    returns-2)

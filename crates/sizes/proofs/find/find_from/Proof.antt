@@ -1,33 +1,37 @@
-use Prim.Native.Nat.{ℕ}
-use mathlib.Core.Path.{refl}
 use native.Mathlib.Omega.{arith}
-use lib.ListN.{length-replicate}
 use borrow.Author.Needs.{needs}
-use Rattle.rules.specs.Listed.{given}
-use Rattle.sizes.proofs.Closing.{sizes-found, sizes-derived}
 use Rattle.sizes.proofs.find.find_from.Statement.{statement}
 use Rattle.sizes.proofs.find.find_from.Tie as tie
 
-slice-aggregate-list-rules : tie.Need-slice-aggregate-list-rules
-slice-aggregate-list-rules c = search needs
+slice-aggregate-in-force : tie.Need-slice-aggregate-in-force
+slice-aggregate-in-force c = search needs
 
-list-rules-requires : tie.Need-list-rules-requires
-list-rules-requires c κs = search needs
+in-force-requires : tie.Need-in-force-requires
+in-force-requires c κs = search needs
 
-slice-aggregate-solve : tie.Need-slice-aggregate-solve
-slice-aggregate-solve c = search needs
+slice-aggregate-settle : tie.Need-slice-aggregate-settle
+slice-aggregate-settle c = search needs
 
-slice-aggregate-solve-2 : tie.Need-slice-aggregate-solve-2
-slice-aggregate-solve-2 c = search needs
+settle-requires : tie.Need-settle-requires
+settle-requires c κs =
+    let p = c .before .before .before .before .before .before .before .before .before .before .before .before .before .before .before .pre in
+    let l = c .before .before .before .before .before .before .in-force .ensures in
+    ((p .0 .0, p .0 .1), ((omega (arith, l .0 .0, l .0 .1, c .before .before .before .before .before .before .before .before .if1 .taken), omega (arith, l .0 .1, p .0 .2 .few), l .0 .2, l .1), (p .1 .0, p .1 .1)))
 
-slice-aggregate-solve-3 : tie.Need-slice-aggregate-solve-3
-slice-aggregate-solve-3 c = search needs
+slice-aggregate-in-force-2 : tie.Need-slice-aggregate-in-force-2
+slice-aggregate-in-force-2 c = search needs
 
-solve-requires : tie.Need-solve-requires
-solve-requires c κs =
-    let p = c .before .before .before .before .before .before .before .before .before .before .before .before .before .pre in
-    let l = c .before .before .before .before .before .before .before .list-rules .ensures .0 in
-    ((omega (arith, l), l .1, l .2), ((refl, length-replicate {A = ℕ} 3841 0), p .1 .1))
+in-force-requires-2 : tie.Need-in-force-requires-2
+in-force-requires-2 c κs = search needs
+
+slice-aggregate-settle-2 : tie.Need-slice-aggregate-settle-2
+slice-aggregate-settle-2 c = search needs
+
+settle-requires-2 : tie.Need-settle-requires-2
+settle-requires-2 c κs =
+    let p = c .before .before .before .before .before .before .before .before .before .before .before .before .before .before .before .pre in
+    let l = c .before .before .before .before .before .before .in-force2 .ensures in
+    ((p .0 .0, p .0 .1), ((omega (arith, l .0 .0, l .0 .1, p .0 .2 .few), omega (arith, l .0 .1, p .0 .2 .few), l .0 .2, l .1), (p .1 .0, p .1 .1)))
 
 same-length : tie.Need-same-length
 same-length c = search needs
@@ -35,25 +39,41 @@ same-length c = search needs
 same-length-2 : tie.Need-same-length-2
 same-length-2 c = search needs
 
+same-length-3 : tie.Need-same-length-3
+same-length-3 c = search needs
+
 returns : tie.Need-returns
-returns c =
-    let a = c .before .before .before .before .before .before .before .before .before .before .before .before .before .before .before .before .before .before .before .before .args in
-    let p = c .before .before .before .before .before .before .before .before .before .before .before .before .before .before .before .before .before .before .before .before .pre in
-    let s = c .before .before .before .before .before .before .solve .ensures .settles (given (a .t .now) (a .choice .now) (a .known)) (c .before .before .before .before .before .before .before .before .before .before .before .before .before .before .list-rules .ensures .1) (p .1 .0) in (
-      sizes-found (a .t .now) (a .choice .now) (a .known) (p .0 .0) (p .0 .1) s,
-      sizes-derived (a .t .now) (a .choice .now) (a .known) (p .0 .0) (p .0 .1) s,
-    )
+returns c = search needs
+
+same-length-4 : tie.Need-same-length-4
+same-length-4 c = search needs
+
+same-length-5 : tie.Need-same-length-5
+same-length-5 c = search needs
+
+same-length-6 : tie.Need-same-length-6
+same-length-6 c = search needs
+
+returns-2 : tie.Need-returns-2
+returns-2 c = search needs
 
 pub find-from-spec : {M : Type 1} → statement M
 find-from-spec =
     tie.close
     (tie.spec
-    slice-aggregate-list-rules
-    list-rules-requires
-    slice-aggregate-solve
-    slice-aggregate-solve-2
-    slice-aggregate-solve-3
-    solve-requires
+    slice-aggregate-in-force
+    in-force-requires
+    slice-aggregate-settle
+    settle-requires
+    slice-aggregate-in-force-2
+    in-force-requires-2
+    slice-aggregate-settle-2
+    settle-requires-2
     same-length
     same-length-2
-    returns)
+    same-length-3
+    returns
+    same-length-4
+    same-length-5
+    same-length-6
+    returns-2)

@@ -1,12 +1,10 @@
-use Prim.Native.Nat.{_+_, _*_}
-use mathlib.Core.Path.{_≡_}
-use mathlib.Core.List.{map}
+use Prim.Native.Nat.{ℕ, _+_, _*_}
+use mathlib.Core.Path.{_≡_, ap, _∙_}
+use lib.ListN.{length, length-replicate}
 use native.Mathlib.Omega.{arith}
 use Rattle.table.specs.Program.{programOf}
 use Rattle.table.proofs.Ready.{few-functions, few-nodes, functions-are, nodes-are}
 use Rattle.sync.specs.Words.{member}
-use Rattle.size.specs.Size.{valueOf}
-use Rattle.rules.specs.Choice.{at}
 use Rattle.rules.specs.Rules.{entries}
 use borrow.Author.Needs.{needs}
 use Rattle.sizes.proofs.find.put.Statement.{statement}
@@ -17,21 +15,24 @@ find-requires c κs = search needs
 
 add-count : tie.Need-add-count
 add-count c =
-    let a = c .before .before .before .before .before .before .before .before .before .before .before .before .before .before .args in
-    let pre = c .before .before .before .before .before .before .before .before .before .before .before .before .before .before .pre in
-    omega (arith, few-functions (a .t .now) (a .known .of) (pre .0 .0), few-nodes (a .t .now) (a .known .of) (pre .0 .0))
+    let a = c .before .before .before .before .before .before .before .before .before .before .before .before .before .before .before .before .before .before .args in
+    let r = c .before .before .before .before .before .before .before .before .before .before .before .before .before .before .before .before .before .before .pre .0 .0 in
+    omega (arith, few-functions (a .t .now) (a .known .of) r, few-nodes (a .t .now) (a .known .of) r)
 
 mul-count : tie.Need-mul-count
 mul-count c =
-    let a = c .before .before .before .before .before .before .before .before .before .before .before .before .before .before .args in
-    let pre = c .before .before .before .before .before .before .before .before .before .before .before .before .before .before .pre in
-    omega (arith, few-functions (a .t .now) (a .known .of) (pre .0 .0), few-nodes (a .t .now) (a .known .of) (pre .0 .0))
+    let a = c .before .before .before .before .before .before .before .before .before .before .before .before .before .before .before .before .before .before .args in
+    let r = c .before .before .before .before .before .before .before .before .before .before .before .before .before .before .before .before .before .before .pre .0 .0 in
+    omega (arith, few-functions (a .t .now) (a .known .of) r, few-nodes (a .t .now) (a .known .of) r)
 
-write-sizes-requires : tie.Need-write-sizes-requires
-write-sizes-requires c κs =
-    let a = c .before .before .before .before .before .before .before .before .before .before .before .before .before .before .before .args in
-    let pre = c .before .before .before .before .before .before .before .before .before .before .before .before .before .before .before .pre in
-    (omega (arith, few-functions (a .t .now) (a .known .of) (pre .0 .0), few-nodes (a .t .now) (a .known .of) (pre .0 .0)), omega (arith, pre .1 .2, functions-are (a .t .now) (a .known .of) (pre .0 .0), nodes-are (a .t .now) (a .known .of) (pre .0 .0)))
+copy-requires : tie.Need-copy-requires
+copy-requires c κs =
+    let a = c .before .before .before .before .before .before .before .before .before .before .before .before .before .before .before .before .before .before .before .before .args in
+    let p = c .before .before .before .before .before .before .before .before .before .before .before .before .before .before .before .before .before .before .before .before .pre in
+    let r = p .0 .0 in
+    let long = c .before .before .before .before .before .before .before .before .before .find .kept in
+    let all = ap length (p .1 .0) ∙ length-replicate {A = ℕ} 2304 0 in
+    (omega (arith, few-functions (a .t .now) (a .known .of) r, few-nodes (a .t .now) (a .known .of) r, long, all), omega (arith, p .1 .3, functions-are (a .t .now) (a .known .of) r, nodes-are (a .t .now) (a .known .of) r))
 
 same-length : tie.Need-same-length
 same-length c = search needs
@@ -42,12 +43,16 @@ same-length-2 c = search needs
 same-length-3 : tie.Need-same-length-3
 same-length-3 c = search needs
 
+same-length-4 : tie.Need-same-length-4
+same-length-4 c = search needs
+
 returns : tie.Need-returns
 returns c =
-    let a = c .before .before .before .before .before .before .before .before .before .before .before .before .before .before .before .before .before .before .args in
-    let pre = c .before .before .before .before .before .before .before .before .before .before .before .before .before .before .before .before .before .before .pre in
-    let e : 4 * (a .known .of .functions + a .known .of .nodes) ≡ entries (programOf (a .t .now)) = omega (arith, functions-are (a .t .now) (a .known .of) (pre .0 .0), nodes-are (a .t .now) (a .known .of) (pre .0 .0)) in
-    (c .before .before .before .before .before .before .before .before .before .find .ensures .0, (at (map valueOf (c .before .before .before .before .before .before .before .before .before .find .result)), (member (a .known .synchronising), pre .0 .1 .set, c .before .before .before .before .before .before .before .before .before .find .ensures .0 .least), rw e at (c .before .before .write-sizes .ensures)))
+    let a = c .before .before .before .before .before .before .before .before .before .before .before .before .before .before .before .before .before .before .before .before .before .before .before .args in
+    let p = c .before .before .before .before .before .before .before .before .before .before .before .before .before .before .before .before .before .before .before .before .before .before .before .pre in
+    let f = c .before .before .before .before .before .before .before .before .before .before .before .before .find in
+    let e : 4 * (a .known .of .functions + a .known .of .nodes) ≡ entries (programOf (a .t .now)) = omega (arith, functions-are (a .t .now) (a .known .of) (p .0 .0), nodes-are (a .t .now) (a .known .of) (p .0 .0)) in
+    (f .ensures, (_, (member (a .known .synchronising), p .0 .1 .set, f .ensures .least), rw e at (c .before .before .copy .ensures)))
 
 pub put-spec : {M : Type 1} → statement M
 put-spec =
@@ -56,8 +61,9 @@ put-spec =
     find-requires
     add-count
     mul-count
-    write-sizes-requires
+    copy-requires
     same-length
     same-length-2
     same-length-3
+    same-length-4
     returns)

@@ -13,10 +13,10 @@ use Rattle.sizes.proofs.solve.write_sums.Statement.{statement}
 use Rattle.sizes.proofs.solve.write_sums.Tie as tie
 
 abbrev Inv-loop : tie.InvT-loop
-Inv-loop out₀ sums i₀ out i = (i ≤ 512) × (512 ≤ length out₀) × Written i (at (map valueOf sums)) out₀ out
+Inv-loop count out₀ sums i₀ out i = (i ≤ count) × (count ≤ length out₀) × Written i (at (map valueOf sums)) out₀ out
 
 abbrev μ-loop : tie.MeasureT-loop
-μ-loop out₀ sums i₀ out i = 512 - i
+μ-loop count out₀ sums i₀ out i = count - i
 
 loop-holds : tie.Need-loop-holds Inv-loop μ-loop
 loop-holds c =

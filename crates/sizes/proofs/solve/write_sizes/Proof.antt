@@ -9,8 +9,8 @@ use Rattle.rules.specs.Choice.{at}
 use Rattle.sizes.specs.Answer.{Written}
 use Rattle.sizes.proofs.Maps.{map-at}
 use Rattle.sizes.proofs.Writing.{written-none, written-next, written-last}
-use Rattle.sizes.proofs.find.write_sizes.Statement.{statement}
-use Rattle.sizes.proofs.find.write_sizes.Tie as tie
+use Rattle.sizes.proofs.solve.write_sizes.Statement.{statement}
+use Rattle.sizes.proofs.solve.write_sizes.Tie as tie
 
 abbrev Inv-loop : tie.InvT-loop
 Inv-loop count out₀ sizes i₀ out i = (i ≤ count) × (count ≤ length out₀) × Written i (at (map valueOf sizes)) out₀ out
