@@ -17,7 +17,7 @@ use Rattle.table.specs.WellFormed.{WellFormed}
 use Rattle.table.specs.declared.Counts.{Counts}
 use Rattle.table.proofs.Booleans.{not-both}
 use Rattle.table.proofs.Ready.{nodes-are}
-use Rattle.rules.specs.Choice.{at}
+use Rattle.rules.specs.Choice.{at, unmerged}
 use Rattle.rules.specs.Rules.{entries, LeastSizes}
 use Rattle.rules.specs.System.{Derived}
 use Rattle.sizes.specs.Answer.{Written}
@@ -28,8 +28,8 @@ use Rattle.sizes.proofs.Laws.{sizes-alike, derived-larger}
 use Rattle.safety.specs.Safety.{Safe}
 use Rattle.safety.specs.Test.{Judged}
 use Rattle.safety.proofs.Laws.{safe-smaller, safe-alike}
-use Rattle.choice.specs.Preference.{InOrder}
-use Rattle.choice.specs.Walk.{Unmerged, unmergedAt, raisedTo, OthersZero, Sized, Adopted, taken, left, Tried, raised, kept, TriedAll, all-raised, all-kept, Walked}
+use Rattle.choice.specs.Preference.{IsSpawn, InOrder}
+use Rattle.choice.specs.Walk.{Unmerged, everySpawn, raisedTo, OthersZero, Sized, Adopted, taken, left, Tried, raised, kept, TriedAll, all-raised, all-kept, Walked}
 
 -- the last of the first i + 1, or one before it
 last-or-before : (j i : ℕ) → j < i + 1 → (j ≡ i) ⊎ (j < i)
@@ -279,19 +279,29 @@ module _ (g : Program) (set′ reached : ℕ → Bool) where
       tried-nothing (taken y x w) t z = not-both safe y t
       tried-nothing (left y u l x q) t z = (all-kept refl refl, subst (Sized g set′ reached (choiceOf old)) (sym q) z)
 
--- ---- unmerged everywhere
+-- ---- one verdict for every spawn
 
-pub unmerged-spawn : (g : Program) (n : ℕ) → g .sort n ≡ spawn → unmergedAt g n ≡ 1
-unmerged-spawn g n e = rw (eq-eqb (g .sort n) spawn e) refl
+module _ (g : Program) (k : ℕ) where
+  pub every-spawn : (n : ℕ) → g .sort n ≡ spawn → everySpawn g k n ≡ k
+  every-spawn n e = rw (eq-eqb (g .sort n) spawn e) refl
 
-pub unmerged-other : (g : Program) (n : ℕ) → (g .sort n ≡ spawn → ⊥) → unmergedAt g n ≡ 0
-unmerged-other g n e = rw (ne-eqb (g .sort n) spawn e) refl
+  pub every-other : (n : ℕ) → (g .sort n ≡ spawn → ⊥) → everySpawn g k n ≡ 0
+  every-other n e = rw (ne-eqb (g .sort n) spawn e) refl
 
-pub unmerged-written : (g : Program) (old new : List ℕ) (count : ℕ) → count ≡ g .nodes → Written count (unmergedAt g) old new → Unmerged g (choiceOf new)
-unmerged-written g old new count e w = record {
-  spawns = λ n s. w .written n (omega (arith, s .exists)) ∙ unmerged-spawn g n (s .spawns);
-  others = λ n h s. w .written n (omega arith) ∙ unmerged-other g n s;
-}
+  module _ (old new : List ℕ) (count : ℕ) (e : count ≡ g .nodes) (w : Written count (everySpawn g k) old new) where
+    pub spawns-written : (n : ℕ) → IsSpawn g n → choiceOf new n ≡ k
+    spawns-written n s = w .written n (omega (arith, s .exists)) ∙ every-spawn n (s .spawns)
+
+    pub others-written : OthersZero g (choiceOf new)
+    others-written n h s = w .written n (omega arith) ∙ every-other n s
+
+pub unmerged-written : (g : Program) (old new : List ℕ) (count : ℕ) → count ≡ g .nodes → Written count (everySpawn g unmerged) old new → Unmerged g (choiceOf new)
+unmerged-written g old new count e w = record { spawns = spawns-written g unmerged old new count e w; others = others-written g unmerged old new count e w }
+
+-- what was not adopted changed nothing
+pub adopted-not : {g : Program} {set′ reached : ℕ → Bool} {c : ℕ → ℕ} {old new : List ℕ} {safe : Bool} → Adopted g set′ reached c old new safe → safe ≡ false → new ≡ old
+adopted-not {safe = safe} (taken y x z) n = not-both safe y n
+adopted-not (left y s l x e) n = e
 
 pub nothing-merged : (g : Program) (c : ℕ → ℕ) → Unmerged g c → (n : ℕ) → n < g .nodes → c n ≤ 1
 nothing-merged g c u n h = go (ℕ-discrete (g .sort n) spawn)

@@ -1,7 +1,7 @@
 -- What the two walks come to is safe, no safe choice beats it, and no other choice is like that.
 use Prim.Native.Nat.{ℕ, zero, suc, _<_, _≤_}
 use mathlib.Core.Path.{_≡_, sym, ap, _∙_, subst}
-use mathlib.Core.Bool.{true}
+use mathlib.Core.Bool.{Bool, true}
 use mathlib.Core.List.{List}
 use mathlib.Core.Logic.{_⊎_, inl, inr, ⊎-elim}
 use native.Mathlib.Nat.{eq-or-lt-of-le}
@@ -12,9 +12,10 @@ use Rattle.table.specs.Answer.{Ready}
 use Rattle.table.specs.Program.{Program, programOf}
 use Rattle.table.specs.WellFormed.{WellFormed}
 use Rattle.table.specs.declared.Counts.{Counts}
+use Rattle.table.proofs.Booleans.{not-both}
 use Rattle.table.proofs.Laws.{well-formed}
 use Rattle.table.proofs.Ready.{nodes-are}
-use Rattle.rules.specs.Choice.{guarded, unguarded, ChoiceFor}
+use Rattle.rules.specs.Choice.{at, unmerged, guarded, unguarded, ChoiceFor}
 use Rattle.rules.specs.Rules.{LeastSizes}
 use Rattle.sizes.specs.Answer.{Written}
 use Rattle.sizes.specs.Call.{choiceOf}
@@ -22,9 +23,9 @@ use Rattle.safety.specs.Safety.{Safe}
 use Rattle.safety.proofs.Laws.{safe-alike, unmerged-safe}
 use Rattle.choice.specs.Preference.{IsSpawn, comesFirst, ComesFirst, InOrder}
 use Rattle.choice.specs.Beats.{Alike, Wins, Beats, Best, Returned}
-use Rattle.choice.specs.Walk.{Unmerged, unmergedAt, Walked, Chosen}
+use Rattle.choice.specs.Walk.{Unmerged, everySpawn, OthersZero, Sized, Adopted, taken, left, Walked, Chosen}
 use Rattle.choice.proofs.Firsts.{first-irreflexive, first-transitive, first-by}
-use Rattle.choice.proofs.Walking.{written-twice, unmerged-written, nothing-merged}
+use Rattle.choice.proofs.Walking.{written-own, written-twice, spawns-written, others-written, unmerged-written, nothing-merged}
 
 -- ---- of two choices one wins, or they are alike
 
@@ -114,70 +115,11 @@ module _ (g : Program) (c d : ℕ → ℕ) (e : (n : ℕ) → n < g .nodes → c
           inr
           (λ n s. (λ y. omega (arith, a n s .0 y, e n (s .exists)), λ y. a n s .1 (omega (arith, e n (s .exists)))), wins-alike unguarded x v)
 
--- ---- the two walks
+-- ---- a safe choice that no safe choice beats is the only one, and so the one to return
 
--- the verdict of a node to begin with, after the first walk, and after the second
-record Stages (x y z : ℕ) : Type 0 where
-  first-up : x ≤ y
-  merged-at-most : y ≤ 2
-  second-up : y ≤ z
-  at-most : z ≤ 3
-  merged-before : 2 ≤ z → 2 ≤ y
-  zero-stays : x ≡ 0 → z ≡ 0
-
-stages : (x y z : ℕ) → x ≤ 1 → (y ≡ x) ⊎ ((suc x ≡ 2) × (y ≡ 2)) → (z ≡ y) ⊎ ((suc y ≡ 3) × (z ≡ 3)) → Stages x y z
-stages x y z h (inl e) (inl f) = record { first-up = omega arith; merged-at-most = omega arith; second-up = omega arith; at-most = omega arith; merged-before = λ l. omega arith; zero-stays = λ l. omega arith }
-stages x y z h (inl e) (inr (a, b)) = record { first-up = omega arith; merged-at-most = omega arith; second-up = omega arith; at-most = omega arith; merged-before = λ l. omega arith; zero-stays = λ l. omega arith }
-stages x y z h (inr (a, b)) (inl f) = record { first-up = omega arith; merged-at-most = omega arith; second-up = omega arith; at-most = omega arith; merged-before = λ l. omega arith; zero-stays = λ l. omega arith }
-stages x y z h (inr (a, b)) (inr (p, q)) = record { first-up = omega arith; merged-at-most = omega arith; second-up = omega arith; at-most = omega arith; merged-before = λ l. omega arith; zero-stays = λ l. omega arith }
-
-module _ (g : Program) (w : WellFormed g) (count : ℕ) (order : ℕ → ℕ) (o : InOrder g count order) (start middle final : ℕ → ℕ) (u : Unmerged g start) (one : Walked g guarded count order start middle) (two : Walked g unguarded count order middle final) where
-  at : (n : ℕ) → n < g .nodes → Stages (start n) (middle n) (final n)
-  at n h =
-      stages (start n) (middle n) (final n) (nothing-merged g start u n h)
-      (⊎-elim inl (λ z. inr (z .0, z .1)) (one .moved n h))
-      (⊎-elim inl (λ z. inr (z .0, z .1)) (two .moved n h))
-
-  final-for : ChoiceFor g final
-  final-for = record {
-    others = λ n h e. at n h .zero-stays (u .others n h e);
-    spawns = λ n h e. (omega (arith, at n h .first-up, at n h .second-up, u .spawns n (record { exists = h; spawns = e })), at n h .at-most);
-  }
-
-  module _ (d : ℕ → ℕ) (f : ChoiceFor g d) where
-    start-below : (n : ℕ) → n < g .nodes → start n ≤ d n
-    start-below n h = go (ℕ-discrete (g .sort n) spawn)
-      where
-        go : Dec (g .sort n ≡ spawn) → start n ≤ d n
-        go (yes e) = omega (arith, u .spawns n (record { exists = h; spawns = e }), f .spawns n h e .0)
-        go (no e) = omega (arith, u .others n h e)
-
-    middle-below : AllAlike g guarded d final → (n : ℕ) → n < g .nodes → middle n ≤ d n
-    middle-below a n h = go (ℕ-discrete (g .sort n) spawn) (decLe 2 (middle n))
-      where
-        go : Dec (g .sort n ≡ spawn) → Dec (2 ≤ middle n) → middle n ≤ d n
-        go (yes e) (yes l) = omega (arith, at n h .merged-at-most, a n (record { exists = h; spawns = e }) .1 (omega (arith, at n h .second-up)))
-        go (yes e) (no l) = omega (arith, f .spawns n h e .0)
-        go (no e) l = omega (arith, at n h .second-up, at n h .zero-stays (u .others n h e))
-
-    beaten-by-none : Safe g d → Beats g d final → ⊥
-    beaten-by-none s (inl v) =
-        no-win g w count order o guarded start middle one d s start-below
-        (record {
-          at = v .at;
-          spawn-is = v .spawn-is;
-          does = v .does;
-          doesn't = omega (arith, v .doesn't, at (v .at) (v .spawn-is .exists) .second-up);
-          first = λ m p q. let z = v .first m p q in (λ y. at m (p .exists) .merged-before (z .0 y), λ y. z .1 (omega (arith, at m (p .exists) .second-up)));
-        })
-        (ap suc (u .spawns (v .at) (v .spawn-is)))
-    beaten-by-none s (inr (a, v)) =
-        let x = at (v .at) (v .spawn-is .exists) in
-        let merged = x .merged-before (a (v .at) (v .spawn-is) .0 (omega (arith, v .does))) in
-        no-win g w count order o unguarded middle final two d s (middle-below a) v (omega (arith, x .merged-at-most, merged))
-
+module _ (g : Program) (w : WellFormed g) (count : ℕ) (order : ℕ → ℕ) (o : InOrder g count order) (final : ℕ → ℕ) (final-for : ChoiceFor g final) (safe : Safe g final) (unbeaten : (d : ℕ → ℕ) → ChoiceFor g d → Safe g d → Beats g d final → ⊥) where
   best : Best g final
-  best = record { safe = two .safe; unbeaten = λ d f. beaten-by-none d f }
+  best = record { safe = safe; unbeaten = unbeaten }
 
   only : (c : ℕ → ℕ) → ChoiceFor g c → Best g c → (n : ℕ) → n < g .nodes → final n ≡ c n
   only c f b n h = go (ℕ-discrete (g .sort n) spawn)
@@ -200,36 +142,126 @@ module _ (g : Program) (w : WellFormed g) (count : ℕ) (order : ℕ → ℕ) (o
 
       third : g .sort n ≡ spawn → AllAlike g guarded c final → AllAlike g unguarded c final ⊎ (Wins g unguarded c final ⊎ Wins g unguarded final c) → final n ≡ c n
       third e a (inl b′) = let i : IsSpawn g n = record { exists = h; spawns = e } in same e (a n i) (b′ n i)
-      third e a (inr (inl v)) = absurd (beaten-by-none c f (b .safe) (inr (a, v)))
+      third e a (inr (inl v)) = absurd (unbeaten c f (b .safe) (inr (a, v)))
       third e a (inr (inr v)) = absurd (b .unbeaten final final-for (best .safe) (inr (λ m i. (a m i .1, a m i .0), v)))
 
       second : g .sort n ≡ spawn → AllAlike g guarded c final ⊎ (Wins g guarded c final ⊎ Wins g guarded final c) → final n ≡ c n
       second e (inl a) = third e a (alike-or-wins g w count order o unguarded c final)
-      second e (inr (inl v)) = absurd (beaten-by-none c f (b .safe) (inl v))
+      second e (inr (inl v)) = absurd (unbeaten c f (b .safe) (inl v))
       second e (inr (inr v)) = absurd (b .unbeaten final final-for (best .safe) (inl v))
 
       go : Dec (g .sort n ≡ spawn) → final n ≡ c n
       go (yes e) = second e (alike-or-wins g w count order o guarded c final)
       go (no e) = final-for .others n h e ∙ sym (f .others n h e)
 
-  -- so it is the one to return
-  pub walks-return : Returned g final
-  walks-return = record {
+  return-unbeaten : Returned g final
+  return-unbeaten = record {
     choice-for = final-for;
     exactly-when = λ c f. (λ e. best-alike g final c e best, only c f);
   }
 
+-- ---- the two walks
+
+-- the verdict of a node to begin with, after the first walk, and after the second
+record Stages (x y z : ℕ) : Type 0 where
+  first-up : x ≤ y
+  merged-at-most : y ≤ 2
+  second-up : y ≤ z
+  at-most : z ≤ 3
+  merged-before : 2 ≤ z → 2 ≤ y
+  zero-stays : x ≡ 0 → z ≡ 0
+
+stages : (x y z : ℕ) → x ≤ 1 → (y ≡ x) ⊎ ((suc x ≡ 2) × (y ≡ 2)) → (z ≡ y) ⊎ ((suc y ≡ 3) × (z ≡ 3)) → Stages x y z
+stages x y z h (inl e) (inl f) = record { first-up = omega arith; merged-at-most = omega arith; second-up = omega arith; at-most = omega arith; merged-before = λ l. omega arith; zero-stays = λ l. omega arith }
+stages x y z h (inl e) (inr (a, b)) = record { first-up = omega arith; merged-at-most = omega arith; second-up = omega arith; at-most = omega arith; merged-before = λ l. omega arith; zero-stays = λ l. omega arith }
+stages x y z h (inr (a, b)) (inl f) = record { first-up = omega arith; merged-at-most = omega arith; second-up = omega arith; at-most = omega arith; merged-before = λ l. omega arith; zero-stays = λ l. omega arith }
+stages x y z h (inr (a, b)) (inr (p, q)) = record { first-up = omega arith; merged-at-most = omega arith; second-up = omega arith; at-most = omega arith; merged-before = λ l. omega arith; zero-stays = λ l. omega arith }
+
+module _ (g : Program) (w : WellFormed g) (count : ℕ) (order : ℕ → ℕ) (o : InOrder g count order) (start middle final : ℕ → ℕ) (u : Unmerged g start) (one : Walked g guarded count order start middle) (two : Walked g unguarded count order middle final) where
+  stage : (n : ℕ) → n < g .nodes → Stages (start n) (middle n) (final n)
+  stage n h =
+      stages (start n) (middle n) (final n) (nothing-merged g start u n h)
+      (⊎-elim inl (λ z. inr (z .0, z .1)) (one .moved n h))
+      (⊎-elim inl (λ z. inr (z .0, z .1)) (two .moved n h))
+
+  final-for : ChoiceFor g final
+  final-for = record {
+    others = λ n h e. stage n h .zero-stays (u .others n h e);
+    spawns = λ n h e. (omega (arith, stage n h .first-up, stage n h .second-up, u .spawns n (record { exists = h; spawns = e })), stage n h .at-most);
+  }
+
+  module _ (d : ℕ → ℕ) (f : ChoiceFor g d) where
+    start-below : (n : ℕ) → n < g .nodes → start n ≤ d n
+    start-below n h = go (ℕ-discrete (g .sort n) spawn)
+      where
+        go : Dec (g .sort n ≡ spawn) → start n ≤ d n
+        go (yes e) = omega (arith, u .spawns n (record { exists = h; spawns = e }), f .spawns n h e .0)
+        go (no e) = omega (arith, u .others n h e)
+
+    middle-below : AllAlike g guarded d final → (n : ℕ) → n < g .nodes → middle n ≤ d n
+    middle-below a n h = go (ℕ-discrete (g .sort n) spawn) (decLe 2 (middle n))
+      where
+        go : Dec (g .sort n ≡ spawn) → Dec (2 ≤ middle n) → middle n ≤ d n
+        go (yes e) (yes l) = omega (arith, stage n h .merged-at-most, a n (record { exists = h; spawns = e }) .1 (omega (arith, stage n h .second-up)))
+        go (yes e) (no l) = omega (arith, f .spawns n h e .0)
+        go (no e) l = omega (arith, stage n h .second-up, stage n h .zero-stays (u .others n h e))
+
+    beaten-by-none : Safe g d → Beats g d final → ⊥
+    beaten-by-none s (inl v) =
+        no-win g w count order o guarded start middle one d s start-below
+        (record {
+          at = v .at;
+          spawn-is = v .spawn-is;
+          does = v .does;
+          doesn't = omega (arith, v .doesn't, stage (v .at) (v .spawn-is .exists) .second-up);
+          first = λ m p q. let z = v .first m p q in (λ y. stage m (p .exists) .merged-before (z .0 y), λ y. z .1 (omega (arith, stage m (p .exists) .second-up)));
+        })
+        (ap suc (u .spawns (v .at) (v .spawn-is)))
+    beaten-by-none s (inr (a, v)) =
+        let x = stage (v .at) (v .spawn-is .exists) in
+        let merged = x .merged-before (a (v .at) (v .spawn-is) .0 (omega (arith, v .does))) in
+        no-win g w count order o unguarded middle final two d s (middle-below a) v (omega (arith, x .merged-at-most, merged))
+
+  -- so it is the one to return
+  pub walks-return : Returned g final
+  walks-return = return-unbeaten g w count order o final final-for (two .safe) beaten-by-none
+
+-- every spawn unguarded: nothing wins against it
+widest-returned : (g : Program) → WellFormed g → (count : ℕ) (order : ℕ → ℕ) → InOrder g count order → (c : ℕ → ℕ) → ((n : ℕ) → IsSpawn g n → c n ≡ unguarded) → OthersZero g c → Safe g c → Returned g c
+widest-returned g w count order o c all others safe = return-unbeaten g w count order o c (record { others = others; spawns = λ n h e. let i = all n (record { exists = h; spawns = e }) in (omega (arith, i), omega (arith, i)) }) safe unbeaten
+  where
+    unbeaten : (d : ℕ → ℕ) → ChoiceFor g d → Safe g d → Beats g d c → ⊥
+    unbeaten d f s (inl v) = omega (arith, v .doesn't, all (v .at) (v .spawn-is))
+    unbeaten d f s (inr (a, v)) = omega (arith, v .doesn't, all (v .at) (v .spawn-is))
+
 -- ---- from the bytes
 
-pub unmerged-is : (t : List ℕ) (of : Counts) → Ready t of → {old new : List ℕ} → Written (of .nodes) (unmergedAt (programOf t)) old new → Unmerged (programOf t) (choiceOf new)
+pub unmerged-is : (t : List ℕ) (of : Counts) → Ready t of → {old new : List ℕ} → Written (of .nodes) (everySpawn (programOf t) unmerged) old new → Unmerged (programOf t) (choiceOf new)
 unmerged-is t of r {old} {new} w = unmerged-written (programOf t) old new (of .nodes) (nodes-are t of r) w
 
-pub unmerged-ready : (t : List ℕ) (of : Counts) → Ready t of → {old new : List ℕ} → Written (of .nodes) (unmergedAt (programOf t)) old new → (s : ℕ → ℕ) → LeastSizes (programOf t) (choiceOf new) s → Safe (programOf t) (choiceOf new)
+pub unmerged-ready : (t : List ℕ) (of : Counts) → Ready t of → {old new : List ℕ} → Written (of .nodes) (everySpawn (programOf t) unmerged) old new → (s : ℕ → ℕ) → LeastSizes (programOf t) (choiceOf new) s → Safe (programOf t) (choiceOf new)
 unmerged-ready t of r {old} {new} w s l = unmerged-safe (programOf t) (choiceOf new) (nothing-merged (programOf t) (choiceOf new) (unmerged-is t of r w)) (well-formed t (r .accepted-is)) s l
 
-pub chosen : (t : List ℕ) (of : Counts) → Ready t of → (count : ℕ) (order : ℕ → ℕ) → InOrder (programOf t) count order → {old start middle final : List ℕ} → Written (of .nodes) (unmergedAt (programOf t)) old start → Written (of .nodes) (choiceOf middle) start middle → Written (of .nodes) (choiceOf final) middle final → Walked (programOf t) guarded count order (choiceOf start) (choiceOf middle) → Walked (programOf t) unguarded count order (choiceOf middle) (choiceOf final) → (s : ℕ → ℕ) → LeastSizes (programOf t) (choiceOf final) s → Chosen (programOf t) old final s
+pub chosen : (t : List ℕ) (of : Counts) → Ready t of → (count : ℕ) (order : ℕ → ℕ) → InOrder (programOf t) count order → {old start middle final : List ℕ} → Written (of .nodes) (everySpawn (programOf t) unmerged) old start → Written (of .nodes) (choiceOf middle) start middle → Written (of .nodes) (choiceOf final) middle final → Walked (programOf t) guarded count order (choiceOf start) (choiceOf middle) → Walked (programOf t) unguarded count order (choiceOf middle) (choiceOf final) → (s : ℕ → ℕ) → LeastSizes (programOf t) (choiceOf final) s → Chosen (programOf t) old final s
 chosen t of r count order o {old} {start} {middle} {final} a b c one two s l = record {
   returned = walks-return (programOf t) (well-formed t (r .accepted-is)) count order o (choiceOf start) (choiceOf middle) (choiceOf final) (unmerged-is t of r a) one two;
-  written = rw (nodes-are t of r) at (written-twice (of .nodes) (choiceOf middle) old middle final (written-twice (of .nodes) (unmergedAt (programOf t)) old start middle a b) c);
+  written = rw (nodes-are t of r) at (written-twice (of .nodes) (choiceOf middle) old middle final (written-twice (of .nodes) (everySpawn (programOf t) unmerged) old start middle a b) c);
   sizes-are = l;
+}
+
+-- the widest choice was adopted
+pub chosen-widest : (t : List ℕ) (of : Counts) → Ready t of → (count : ℕ) (order : ℕ → ℕ) → InOrder (programOf t) count order → {old new : List ℕ} → Written (of .nodes) (everySpawn (programOf t) unguarded) old new → {set reached : ℕ → Bool} {from to : List ℕ} {done : Bool} → Adopted (programOf t) set reached (choiceOf new) from to done → done ≡ true → Chosen (programOf t) old new (at to)
+chosen-widest t of r count order o w {done = done} (left y s l x e) q = not-both done q y
+chosen-widest t of r count order o {old} {new} w (taken y x z) q = record {
+  returned = widest-returned (programOf t) (well-formed t (r .accepted-is)) count order o (choiceOf new) (spawns-written (programOf t) unguarded old new (of .nodes) (nodes-are t of r) w) (others-written (programOf t) unguarded old new (of .nodes) (nodes-are t of r) w) x;
+  written = rw (nodes-are t of r) at (written-twice (of .nodes) (everySpawn (programOf t) unguarded) old new new w (written-own (of .nodes) new));
+  sizes-are = z .sizes-are;
+}
+
+-- what was written before it does not matter
+pub chosen-after : (t : List ℕ) (of : Counts) → Ready t of → (k : ℕ) {old mid new : List ℕ} {s : ℕ → ℕ} → Written (of .nodes) (everySpawn (programOf t) k) old mid → Chosen (programOf t) mid new s → Chosen (programOf t) old new s
+chosen-after t of r k {old} {mid} {new} w c = record {
+  returned = c .returned;
+  written = written-twice (programOf t .nodes) (everySpawn (programOf t) k) old mid new (rw (nodes-are t of r) at w) (c .written);
+  sizes-are = c .sizes-are;
 }

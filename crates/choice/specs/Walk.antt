@@ -22,8 +22,9 @@ pub record Unmerged (g : Program) (c : ℕ → ℕ) : Type 0 where
   pub spawns : (n : ℕ) → IsSpawn g n → c n ≡ unmerged
   pub others : (n : ℕ) → n < g .nodes → (g .sort n ≡ spawn → ⊥) → c n ≡ 0
 
-abbrev pub unmergedAt : Program → ℕ → ℕ
-unmergedAt g n = cond (eqb (g .sort n) spawn) unmerged 0
+-- verdict k for every spawn
+abbrev pub everySpawn : Program → ℕ → ℕ → ℕ
+everySpawn g k n = cond (eqb (g .sort n) spawn) k 0
 
 -- the numbers are the sizes of choice c, and those of a larger choice may be found from them
 pub record Sized (g : Program) (set reached : ℕ → Bool) (c : ℕ → ℕ) (sizes : List ℕ) : Type 0 where

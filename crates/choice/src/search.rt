@@ -15,31 +15,31 @@ ghost use Rattle.table.specs.Answer.{Ready};
 ghost use Rattle.table.specs.Program.{programOf};
 ghost use Rattle.sync.specs.Words.{member};
 ghost use Rattle.sync.specs.Answer.{Sets};
-ghost use Rattle.rules.specs.Choice.{at};
+ghost use Rattle.rules.specs.Choice.{at, unguarded};
 ghost use Rattle.rules.specs.System.{Derived};
 ghost use Rattle.rules.specs.Listed.{Widest};
 ghost use Rattle.sizes.specs.Answer.{Written};
 ghost use Rattle.sizes.specs.Call.{choiceOf};
 ghost use Rattle.safety.specs.Safety.{Safe};
 ghost use Rattle.choice.specs.Preference.{InOrder};
-ghost use Rattle.choice.specs.Walk.{unmergedAt, raisedTo, OthersZero, Sized, Adopted, Tried, TriedAll, Walked, Chosen};
+ghost use Rattle.choice.specs.Walk.{everySpawn, raisedTo, OthersZero, Sized, Adopted, Tried, TriedAll, Walked, Chosen};
 
-// The verdict of node n where nothing is merged: 1 for a spawn, and 0 for any other node.
-fn unmerged(t: &[u8], of: Counts, n: usize) -> u8
+// The verdict of node n where every spawn has the verdict k: 0 for any other node.
+fn verdict(t: &[u8], of: Counts, k: u8, n: usize) -> u8
     requires { ⌜ Ready (now t) of × (n < of .nodes) ⌝ }
-    ensures { λ r. ⌜ r ≡ unmergedAt (programOf (now (t .entry))) n ⌝ }
+    ensures { λ r. ⌜ r ≡ everySpawn (programOf (now (t .entry))) k n ⌝ }
 {
-    if program::sort(t, of, n) == 2 { 1 } else { 0 }
+    if program::sort(t, of, n) == 2 { k } else { 0 }
 }
 
-// Unmerged everywhere.
-fn unmerge(t: &[u8], of: Counts, verdicts: &mut [u8])
+// Gives every spawn the verdict k.
+fn give_all(t: &[u8], of: Counts, k: u8, verdicts: &mut [u8])
     requires { ⌜ Ready (now t) of × (of .nodes ≤ length (now verdicts)) ⌝ }
-    ensures { λ _. ⌜ Written (of .nodes) (unmergedAt (programOf (now (t .entry)))) (now (verdicts .entry)) (now (verdicts .exit)) ⌝ }
+    ensures { λ _. ⌜ Written (of .nodes) (everySpawn (programOf (now (t .entry))) k) (now (verdicts .entry)) (now (verdicts .exit)) ⌝ }
 {
     let mut n: usize = 0;
     while n < of.nodes {
-        verdicts[n] = unmerged(t, of, n);
+        verdicts[n] = verdict(t, of, k, n);
         n += 1;
     }
 }
@@ -299,7 +299,77 @@ fn sizes_of(
     );
 }
 
-// The two walks, with the rules of the widest choice at hand.
+// A trial of the widest choice, every spawn unguarded: nothing beats it.
+fn at_widest(
+    t: &[u8],
+    known: Known,
+    all: &[u64],
+    verdicts: &mut [u8],
+    sizes: &mut [u32],
+    trials: &mut u32,
+    passes: &mut u32,
+) -> bool
+    requires { ⌜ Ready (now t) (known .of) × Sets (programOf (now t)) (known .synchronising) (known .reached) × Widest (now t) known (now all) ⌝ }
+    requires { ⌜ (known .of .nodes ≤ length (now verdicts)) × (now sizes ≡ replicate 2304 0) ⌝ }
+    ensures { λ _. ⌜ Written (known .of .nodes) (everySpawn (programOf (now (t .entry))) unguarded) (now (verdicts .entry)) (now (verdicts .exit)) ⌝ }
+    ensures { λ r. ⌜ Adopted (programOf (now (t .entry))) (member (known .synchronising)) (member (known .reached)) (choiceOf (now (verdicts .exit))) (now (sizes .entry)) (now (sizes .exit)) r ⌝ }
+{
+    give_all(t, known.of, 3, verdicts);
+    let mut spent: u32 = 0;
+    let done = adopt(t, known, all, verdicts, sizes, &mut spent);
+    *trials = wrapping_add_u32(*trials, 1);
+    *passes = wrapping_add_u32(*passes, spent);
+    done
+}
+
+// The two walks, from unmerged everywhere.
+fn walks(
+    t: &[u8],
+    known: Known,
+    all: &[u64],
+    order: &[usize],
+    count: usize,
+    verdicts: &mut [u8],
+    sizes: &mut [u32],
+    trials: &mut u32,
+    passes: &mut u32,
+)
+    requires { ⌜ Ready (now t) (known .of) × Sets (programOf (now t)) (known .synchronising) (known .reached) × Widest (now t) known (now all) ⌝ }
+    requires { ⌜ (known .of .nodes ≤ length (now verdicts)) × (now sizes ≡ replicate 2304 0) ⌝ }
+    requires { ⌜ (count ≤ length (now order)) × InOrder (programOf (now t)) count (at (now order)) ⌝ }
+    ensures { λ _. ⌜ Chosen (programOf (now (t .entry))) (now (verdicts .entry)) (now (verdicts .exit)) (at (now (sizes .exit))) ⌝ }
+{
+    give_all(t, known.of, 1, verdicts);
+    let mut spent: u32 = 0;
+    sizes_of(t, known, all, verdicts, sizes, &mut spent);
+    *passes = wrapping_add_u32(*passes, spent);
+    walk(
+        t,
+        known,
+        all,
+        order,
+        count,
+        2,
+        verdicts,
+        sizes,
+        trials,
+        passes,
+    );
+    walk(
+        t,
+        known,
+        all,
+        order,
+        count,
+        3,
+        verdicts,
+        sizes,
+        trials,
+        passes,
+    );
+}
+
+// The search, with the rules of the widest choice at hand.
 fn search(
     t: &[u8],
     known: Known,
@@ -315,27 +385,15 @@ fn search(
 {
     let mut order = [0usize; 512];
     let count = in_order(t, known.of, &mut order);
-    unmerge(t, known.of, verdicts);
-    sizes_of(t, known, all, verdicts, sizes, passes);
-    walk(
+    if at_widest(t, known, all, verdicts, sizes, trials, passes) {
+        return;
+    }
+    walks(
         t,
         known,
         all,
         &order,
         count,
-        2,
-        verdicts,
-        sizes,
-        trials,
-        passes,
-    );
-    walk(
-        t,
-        known,
-        all,
-        &order,
-        count,
-        3,
         verdicts,
         sizes,
         trials,
