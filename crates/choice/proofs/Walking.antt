@@ -1,12 +1,12 @@
 -- One spawn more on a walk: what becomes of its verdict.
 use Prim.Native.Nat.{ℕ, suc, _+_, _-_, _<_, _≤_}
-use mathlib.Core.Path.{_≡_, refl, sym, ap, _∙_, subst, fun-ext}
+use mathlib.Core.Path.{_≡_, refl, sym, ap, _∙_, subst}
 use mathlib.Core.Bool.{Bool, true, false}
 use mathlib.Core.List.{List}
 use mathlib.Core.Logic.{_⊎_, inl, inr, ⊎-elim}
 use native.Mathlib.Nat.{eq-or-lt-of-le}
 use native.Mathlib.Omega.{arith}
-use native.Mathlib.Decide.{ℕ-discrete, decLt}
+use native.Mathlib.Decide.{ℕ-discrete}
 use lib.ListN.{length, set, replicate, length-set}
 use lib.Seq.{getD-set-same, getD-set-other, set-set, set-getD}
 use borrow.Author.Tests.{eq-eqb, ne-eqb}
@@ -24,7 +24,7 @@ use Rattle.sizes.specs.Answer.{Written}
 use Rattle.sizes.specs.Call.{choiceOf}
 use Rattle.rules.proofs.Bounds.{none-past}
 use Rattle.sizes.proofs.Maps.{at-zeros}
-use Rattle.sizes.proofs.Laws.{sizes-alike, derived-larger}
+use Rattle.sizes.proofs.Laws.{sizes-alike, derived-larger, written-same}
 use Rattle.safety.specs.Safety.{Safe}
 use Rattle.safety.specs.Test.{Judged}
 use Rattle.safety.proofs.Laws.{safe-smaller, safe-alike}
@@ -191,23 +191,15 @@ written-twice count numbers a b c v w = record {
 -- ---- a trial, from what the test of a choice says
 
 module _ (g : Program) (formed : WellFormed g) (set′ reached : ℕ → Bool) (c : ℕ → ℕ) where
-  -- numbers that are written over others, which are zeros past the entries, are the same then
-  copied : (from : ℕ → ℕ) {old new : List ℕ} → Derived g set′ reached c from → Written (entries g) from old new → ((x : ℕ) → entries g ≤ x → at old x ≡ 0) → at new ≡ from
-  copied from {old} {new} d w z = fun-ext (λ x. go x (decLt x (entries g)))
-    where
-      go : (x : ℕ) → Dec (x < entries g) → at new x ≡ from x
-      go x (yes h) = w .written x h
-      go x (no h) = w .tail x (omega arith) ∙ z x (omega arith) ∙ sym (none-past g formed set′ reached c (d .each x) (omega arith))
-
-  -- so a choice can be judged from a copy of the sizes there are,
+  -- a choice can be judged from a copy of the sizes there are,
   pub derived-copy : (sizes : ℕ → ℕ) {old new : List ℕ} → Derived g set′ reached c sizes → Written (entries g) sizes old new → old ≡ replicate 2304 0 → Derived g set′ reached c (at new)
-  derived-copy sizes d w e = subst (Derived g set′ reached c) (sym (copied sizes d w (λ x h. ap (λ (l : List ℕ). at l x) e ∙ at-zeros 2304 x))) d
+  derived-copy sizes d w e = subst (Derived g set′ reached c) (sym (written-same g set′ reached formed c sizes d w (λ x h. ap (λ (l : List ℕ). at l x) e ∙ at-zeros 2304 x))) d
 
   -- and be adopted, if it is safe
   module _ (sizes : List ℕ) (trial : ℕ → ℕ) (safe : Bool) (j : Judged g set′ reached c trial safe) where
     pub adopted : {new : List ℕ} → safe ≡ true → length sizes ≡ 2304 → Derived g set′ reached c (at sizes) → Written (entries g) trial sizes new → Adopted g set′ reached c sizes new safe
     adopted {new} y l d w =
-        let same = copied trial (j .derived) w (λ x h. none-past g formed set′ reached c (d .each x) h) in
+        let same = written-same g set′ reached formed c trial (j .derived) w (λ x h. none-past g formed set′ reached c (d .each x) h) in
         taken y (j .tells .yes-if y) (record {
           long = w .long ∙ l;
           sizes-are = subst (LeastSizes g c) (sym same) (j .sizes-are);

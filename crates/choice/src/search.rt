@@ -415,8 +415,8 @@ pub fn choose(
     requires { ⌜ (known .of .nodes ≤ length (now verdicts)) × (now sizes ≡ replicate 2304 0) ⌝ }
     ensures { λ _. ⌜ Chosen (programOf (now (t .entry))) (now (verdicts .entry)) (now (verdicts .exit)) (at (now (sizes .exit))) ⌝ }
 {
-    if room(known.of) <= 512 {
-        let mut rules = [0u64; 512];
+    if room(known.of) <= 256 {
+        let mut rules = [0u64; 256];
         let count = list_widest(t, known, &mut rules);
         search(t, known, &rules[..count], verdicts, sizes, trials, passes);
     } else {

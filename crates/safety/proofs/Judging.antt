@@ -20,6 +20,16 @@ use Rattle.safety.specs.Test.{PostsBelow, EdgesBounded, Tells, Judged}
 use Rattle.safety.proofs.Cuts.{edges-cuts, cuts-edges}
 use Rattle.safety.proofs.Laws.{front-le, back-le}
 
+-- the tests may look at other numbers, if they are the sizes of all functions
+tells-same : (g : Program) → WellFormed g → (s u : ℕ → ℕ) → ((x : ℕ) → x < entries g → u x ≡ s x) → {r : Bool} {E : Type 0} → Tells r (PostsBelow g u (g .nodes) × E) → Tells r (PostsBelow g s (g .nodes) × E)
+tells-same g w s u e t = record {
+  yes-if = λ q. let h = t .yes-if q in (record { zero-below = λ m l x. sym (same m l) ∙ h .0 .zero-below m l x }, h .1);
+  only-if = λ h. t .only-if (record { zero-below = λ m l x. same m l ∙ h .0 .zero-below m l x }, h .1);
+}
+  where
+    same : (m : ℕ) → m < g .nodes → u (4 * g .target m + 1) ≡ s (4 * g .target m + 1)
+    same m l = e (4 * g .target m + 1) (omega (arith, w .target-exists m l))
+
 module _ (g : Program) (w : WellFormed g) (set : ℕ → Bool) (set-is : Synchronising g set) (c s after before : ℕ → ℕ) (x : SizesOf g set c s after before) where
   pub safe-from : PostsBelow g s (g .nodes) → EdgesBounded g after before → Safe g c
   safe-from p b = record {
@@ -65,3 +75,6 @@ module _ (g : Program) (w : WellFormed g) (set : ℕ → Bool) (set-is : Synchro
 
   pub judged : (nodes : ℕ) {r : Bool} → nodes ≡ g .nodes → Tells r (PostsBelow g s nodes × EdgesBounded g after before) → {reached : ℕ → Bool} → Derived g set reached c s → Judged g set reached c s r
   judged nodes e t d = record { tells = tells-safe nodes e t; sizes-are = (set, set-is, x .least); derived = d }
+
+  pub tells-written : (nodes : ℕ) {r : Bool} → nodes ≡ g .nodes → (u : ℕ → ℕ) → ((y : ℕ) → y < entries g → u y ≡ s y) → Tells r (PostsBelow g u nodes × EdgesBounded g after before) → Tells r (Safe g c)
+  tells-written nodes {r} e u same t = tells-safe (g .nodes) refl (tells-same g w s u same (subst (λ (n : ℕ). Tells r (PostsBelow g u n × EdgesBounded g after before)) e t))

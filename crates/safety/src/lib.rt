@@ -1,17 +1,19 @@
 // Safety of a choice. Document 01, "Safety".
 use rules::Known;
 use sizes::admit::admit;
+use sizes::find::find;
 use sizes::find::find_from;
-use sizes::find::put;
 use table::Counts;
 use table::program;
 ghost use mathlib.Core.Path.{_≡_};
+ghost use Prim.Native.Nat.{_≤_};
 ghost use lib.ListN.{length};
 ghost use Rattle.table.specs.Answer.{Ready};
 ghost use Rattle.table.specs.Program.{programOf};
 ghost use Rattle.sync.specs.Words.{member};
 ghost use Rattle.sync.specs.Answer.{Sets};
 ghost use Rattle.rules.specs.Choice.{at};
+ghost use Rattle.rules.specs.Rules.{entries};
 ghost use Rattle.sizes.specs.Call.{choiceOf};
 ghost use Rattle.rules.specs.System.{Derived};
 ghost use Rattle.rules.specs.Listed.{Widest};
@@ -28,7 +30,7 @@ pub enum Answer {
 
 // Condition 1: whether Post of the target of every spawn is 0.
 fn posts_zero(t: &[u8], of: Counts, sizes: &[u32]) -> bool
-    requires { ⌜ Ready (now t) of × (length (now sizes) ≡ 2304) ⌝ }
+    requires { ⌜ Ready (now t) of × (entries (programOf (now t)) ≤ length (now sizes)) ⌝ }
     ensures { λ r. ⌜ Tells r (PostsBelow (programOf (now (t .entry))) (at (now (sizes .entry))) (of .nodes)) ⌝ }
 {
     let mut n: usize = 0;
@@ -65,7 +67,7 @@ fn edges_bounded(t: &[u8], of: Counts, after: &[u32], before: &[u32]) -> bool
 
 // Whether both conditions hold.
 fn both_hold(t: &[u8], of: Counts, sizes: &[u32], after: &[u32], before: &[u32]) -> bool
-    requires { ⌜ Ready (now t) of × (length (now sizes) ≡ 2304) × (length (now after) ≡ 512) × (length (now before) ≡ 512) ⌝ }
+    requires { ⌜ Ready (now t) of × (entries (programOf (now t)) ≤ length (now sizes)) × (length (now after) ≡ 512) × (length (now before) ≡ 512) ⌝ }
     ensures { λ r. ⌜ Tells r (PostsBelow (programOf (now (t .entry))) (at (now (sizes .entry))) (of .nodes) × EdgesBounded (programOf (now (t .entry))) (at (now (after .entry))) (at (now (before .entry)))) ⌝ }
 {
     if posts_zero(t, of, sizes) {
@@ -114,11 +116,11 @@ pub fn safety(t: &[u8], choice: &[u8], out: &mut [u32]) -> Answer
     match answer {
         sizes::Answer::Refused(number, place) => Answer::Refused(number, place),
         sizes::Answer::Done => {
-            let mut found = [0u32; 2304];
             let mut after = [0u32; 512];
             let mut before = [0u32; 512];
-            put(t, choice, known, &mut found, &mut after, &mut before, out);
-            if both_hold(t, known.of, &found, &after, &before) {
+            let mut passes: u32 = 0;
+            find(t, choice, known, out, &mut after, &mut before, &mut passes);
+            if both_hold(t, known.of, out, &after, &before) {
                 Answer::IsSafe
             } else {
                 Answer::IsUnsafe

@@ -15,13 +15,15 @@ use Rattle.table.specs.Checks.{checks, Accepted}
 use Rattle.table.specs.Program.{programOf}
 use Rattle.table.specs.Answer.{Ready}
 use Rattle.table.specs.Scan.{First}
+use Rattle.sync.specs.Words.{member}
 use Rattle.sync.specs.Answer.{Sets}
 use Rattle.table.proofs.Booleans.{or-false, and-true-left, and-true-right}
 use Rattle.table.proofs.Below.{first-some, first-none, earliest-passed}
 use Rattle.table.proofs.Refusals.{refusal-pass, refusal-here, refusal-none, not-applied, refusal-over-none, refusal-over-some}
 use Rattle.rules.specs.Choice.{unmerged, unguarded, ChoiceFor}
 use Rattle.rules.specs.Rules.{entries}
-use Rattle.sizes.specs.Call.{Call, choiceOf, wrongLength, outside, tooShort, sizesRow, choiceChecks, callChecks, Result, done, refused, resultFor, tableResult, result, resultOf}
+use Rattle.sizes.specs.Answer.{Found}
+use Rattle.sizes.specs.Call.{Call, choiceOf, wrongLength, outside, tooShort, sizesRow, choiceChecks, callChecks, Result, done, refused, resultFor, tableResult, result, resultOf, Leaves}
 use Rattle.sizes.specs.Known.{AdmittedFor}
 use Rattle.sizes.specs.declared.Answer.{Answer}
 use Rattle.sizes.specs.declared.Answer.the-variants.{Done, Refused}
@@ -205,3 +207,7 @@ admission x answer known e r a =
     let d : done ≡ result x = rw e at r in
     let k : AdmittedFor (x .table) Done known = rw e at a in
     record { done-is = d; valid = done-valid x d; ready = k .0; sets = k .1 }
+
+-- what is found and written is what the call leaves
+pub found-leaves : (t choice : List ℕ) (known : Known) {old new after before : List ℕ} → Sets (programOf t) (known .synchronising) (known .reached) → Found (programOf t) (member (known .synchronising)) (member (known .reached)) (choiceOf choice) old new after before → Leaves t choice old Done new
+found-leaves t choice known sets f = (f .sizes, (member (known .synchronising), sets .set, f .sizes-of .least), f .written)

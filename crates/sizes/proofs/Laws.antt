@@ -1,11 +1,13 @@
 -- What the crates above may use of the rules: at most one table is least, a larger choice has the larger sizes, and its rules derive what a smaller one's do.
 use Prim.Native.Nat.{ℕ, _<_, _≤_}
-use mathlib.Core.Path.{_≡_, refl, ap, _∙_, subst, fun-ext}
+use mathlib.Core.Path.{_≡_, refl, sym, ap, _∙_, subst, fun-ext}
 use mathlib.Core.Bool.{Bool}
 use mathlib.Core.List.{List}
 use native.Mathlib.Omega.{arith}
+use native.Mathlib.Decide.{decLt}
 use lib.ListN.{replicate}
 use Rattle.table.specs.Program.{Program, programOf}
+use Rattle.table.specs.WellFormed.{WellFormed}
 use Rattle.table.specs.SameButEdges.{SameButEdges}
 use Rattle.table.proofs.Laws.{same-program}
 use Rattle.sync.specs.Synchronising.{Synchronising}
@@ -15,7 +17,9 @@ use Rattle.rules.specs.Choice.{at}
 use Rattle.rules.specs.Rules.{entries, Meets, Least, LeastSizes}
 use Rattle.rules.specs.System.{Entry, Form, Rule, start, step-on, end, total-node, total-edge, target-of, formOf, gives, Der, none, rule, Derived}
 use Rattle.sizes.proofs.Maps.{at-zeros}
+use Rattle.rules.proofs.Bounds.{none-past}
 use Rattle.rules.proofs.Taking.{takes-larger}
+use Rattle.sizes.specs.Answer.{Written}
 
 -- One choice is at or below another, node by node.
 abbrev pub AtMost : Program → (ℕ → ℕ) → (ℕ → ℕ) → Type 0
@@ -113,3 +117,11 @@ module _ (g : Program) (set reached : ℕ → Bool) where
   -- zeros are derived for every choice
   pub derived-zeros : (c : ℕ → ℕ) (l : List ℕ) (n : ℕ) → l ≡ replicate n 0 → Derived g set reached c (at l)
   derived-zeros c l n e = record { each = λ x. rw (ap (λ (m : List ℕ). at m x) e ∙ at-zeros n x) none }
+
+  -- derived sizes that are written over numbers which are zeros past the entries are what stands there then
+  pub written-same : WellFormed g → (c s : ℕ → ℕ) {old new : List ℕ} → Derived g set reached c s → Written (entries g) s old new → ((x : ℕ) → entries g ≤ x → at old x ≡ 0) → at new ≡ s
+  written-same f c s {old} {new} d w z = fun-ext (λ x. go x (decLt x (entries g)))
+    where
+      go : (x : ℕ) → Dec (x < entries g) → at new x ≡ s x
+      go x (yes h) = w .written x h
+      go x (no h) = w .tail x (omega arith) ∙ z x (omega arith) ∙ sym (none-past g f set reached c (d .each x) (omega arith))

@@ -10,7 +10,6 @@ use lib.Dec.{ltb}
 use lib.ListN.{length, getD, set, replicate, length-set, length-map, length-replicate}
 use lib.Seq.{getD-set-same, getD-set-other, set-getD}
 use borrow.Author.Tests.{lt-ltb, le-ltb}
-use Rattle.table.specs.declared.Counts.{Counts}
 use Rattle.size.specs.Size.{unbounded, cap, valueOf}
 use Rattle.size.specs.declared.Size.{Size}
 use Rattle.size.specs.declared.Size.the-variants.{Bytes}
@@ -18,7 +17,7 @@ use Rattle.rules.specs.Choice.{at}
 use Rattle.rules.specs.System.{Entry, size, along, Form, formOf, sumOf, gives, none, Derived, Solved}
 use Rattle.rules.specs.Causes.{Given, RuleOf, DerOf, offset, entryCount, entryAt, Ok, Chain, uncaused, Raised, kept, risen, leapt}
 use Rattle.rules.specs.Listed.{others, Means, headOf, partOf, otherOf, baseOf, Says, Lists}
-use Rattle.sizes.specs.Values.{Values, valuesOf, sums, valueAt, sizePlace, sumPlace, picked, putSums, putSizes, room, roomOf, Long, Turning, Round, left, Starts, Taken}
+use Rattle.sizes.specs.Values.{Values, valuesOf, sums, valueAt, sizePlace, sumPlace, picked, putSums, putSizes, room, roomOf, Long, Turning, Round, left, startsFrom, Taken}
 use Rattle.rules.specs.declared.sums.Sum.{Sum}
 use Rattle.rules.specs.declared.sums.Sum.the-variants.{After, Before, Through}
 use Rattle.sizes.proofs.Maps.{map-set, map-at, at-zeros}
@@ -285,7 +284,7 @@ module _ (sizes after before through : List Size) {k : List ℕ} (long : Long (v
   pub new-through : 3328 ≤ x → x < 3840 → Changed (valuesOf sizes after before through) x (valueOf r) (valuesOf sizes after before (set through (x - 3328) r))
   new-through g h = rw map-set (rw (sum-number Through g) at (change-sums (map valueOf through) (x - 3328) (valueOf r) (omega (arith, long .sums-long Through)) Through (valuesOf sizes after before through) (long .sums-long Through)))
 
-module _ {rules : List ℕ} {count : ℕ} {from : List ℕ} {i : ℕ} {v : Values} {k : List ℕ} {clock started turns : ℕ} (round : Round rules count from i v k clock started turns) (here-is : i < count) where
+module _ {rules : List ℕ} {count : ℕ} {from : ℕ → ℕ} {i : ℕ} {v : Values} {k : List ℕ} {clock started turns : ℕ} (round : Round rules count from i v k clock started turns) (here-is : i < count) where
   module _ (x base y z b old sum t : ℕ) (x-is : x ≡ headOf (at rules i)) (base-is : base ≡ baseOf (at rules i)) (y-is : y ≡ partOf (at rules i)) (z-is : z ≡ otherOf (at rules i)) (b-is : b ≡ cond (ltb z 2304) z y) (old-is : old ≡ valueAt v (entryAt x)) (sum-is : sum ≡ cap (base + (valueAt v (entryAt y) + otherValue (valueAt v) z))) {w : Values} (d : Changed v x t w) {l : List ℕ} {then : ℕ} (r : Raised k x old y b sum clock l t then) where
     pub round-ticks : then + roomOf w ≤ clock + roomOf v
     round-ticks = rise-ticks d (sym old-is) (omega arith) r
@@ -315,7 +314,7 @@ some-risen clock started h n = omega (arith, n)
 none-risen : (clock : ℕ) → min 1 (clock - clock) ≡ 0
 none-risen clock = omega arith
 
-module _ {rules : List ℕ} {count : ℕ} {from : List ℕ} {i : ℕ} {v : Values} {k : List ℕ} {clock started turns : ℕ} (round : Round rules count from i v k clock started turns) (done : count ≤ i) (few-rules : count ≤ 8384) where
+module _ {rules : List ℕ} {count : ℕ} {from : ℕ → ℕ} {i : ℕ} {v : Values} {k : List ℕ} {clock started turns : ℕ} (round : Round rules count from i v k clock started turns) (done : count ≤ i) (few-rules : count ≤ 8384) where
   -- something has risen: once more
   pub round-again : (clock ≡ started → ⊥) → Round rules count from 0 v k clock clock (turns + 1)
   round-again n = record {
@@ -331,7 +330,7 @@ module _ {rules : List ℕ} {count : ℕ} {from : List ℕ} {i : ℕ} {v : Value
   again-less n = rw (some-risen clock started (round .later) n, none-risen clock) (omega (arith, round .places))
 
   -- nothing has risen: all rules hold
-  pub round-solved : clock ≡ started → (S : Given) → Lists S rules count → Derived (S .program) (S .synchronising) (S .reached) (S .choice) (at from) → Solved (S .program) (S .synchronising) (S .reached) (S .choice) (valueAt v)
+  pub round-solved : clock ≡ started → (S : Given) → Lists S rules count → Derived (S .program) (S .synchronising) (S .reached) (S .choice) from → Solved (S .program) (S .synchronising) (S .reached) (S .choice) (valueAt v)
   round-solved q S m e =
       let t = round .turning S m e in
       record { derived = t .ok .sound; closed = λ r. let a = m .all r in t .held q (a .0) (omega (arith, a .1)) (formOf r) (a .2) }
@@ -369,15 +368,16 @@ taken-next from sizes i s t h e = rw map-set (record {
     go x k (yes q) = rw q (getD-set-same (map valueOf sizes) i (valueOf s) 0 (omega (arith, t .long)) ∙ e)
     go x k (no q) = getD-set-other (map valueOf sizes) i x (valueOf s) 0 q ∙ t .taken x (omega (arith, q))
 
-pub taken-all : (of : Counts) (from sizes : List ℕ) (i : ℕ) → Starts of from → Taken i from sizes → i ≡ 4 * (of .functions + of .nodes) → (x : ℕ) → at sizes x ≡ at from x
-taken-all of from sizes i s t e x = go (decLt x i)
+pub taken-all : (taken : ℕ) (from sizes : List ℕ) (i : ℕ) → Taken i from sizes → i ≡ taken → (x : ℕ) → at sizes x ≡ startsFrom taken from x
+unfolding startsFrom
+taken-all taken from sizes i t e x = go (decLt x taken)
   where
-    go : Dec (x < i) → at sizes x ≡ at from x
-    go (yes h) = t .taken x h
-    go (no h) = t .rest x (omega arith) ∙ sym (s .past x (omega arith))
+    go : Dec (x < taken) → at sizes x ≡ cond (ltb x taken) (at from x) 0
+    go (yes h) = rw (lt-ltb x taken h) (t .taken x (omega arith))
+    go (no h) = rw (le-ltb x taken (omega arith)) (t .rest x (omega arith))
 
 -- sums of zero, and no causes
-pub round-start : (rules : List ℕ) (count : ℕ) (from : List ℕ) (sizes after before through : List Size) (k : List ℕ) → length (map valueOf sizes) ≡ 2304 → ((x : ℕ) → at (map valueOf sizes) x ≡ at from x) → map valueOf after ≡ replicate 512 0 → map valueOf before ≡ replicate 512 0 → map valueOf through ≡ replicate 512 0 → k ≡ replicate 3840 65535 → Round rules count from 0 (valuesOf sizes after before through) k 0 0 1
+pub round-start : (rules : List ℕ) (count : ℕ) (from : ℕ → ℕ) (sizes after before through : List Size) (k : List ℕ) → length (map valueOf sizes) ≡ 2304 → ((x : ℕ) → at (map valueOf sizes) x ≡ from x) → map valueOf after ≡ replicate 512 0 → map valueOf before ≡ replicate 512 0 → map valueOf through ≡ replicate 512 0 → k ≡ replicate 3840 65535 → Round rules count from 0 (valuesOf sizes after before through) k 0 0 1
 round-start rules count from sizes after before through k sizes-long same a b c e = record {
   places = omega arith;
   later = omega arith;
@@ -412,6 +412,6 @@ round-start rules count from sizes after before through k sizes-long same a b c 
     sums-long : (s : Sum) → length (sums s (valuesOf sizes after before through)) ≡ 512
     sums-long s = ap length (zeros s) ∙ length-replicate {A = ℕ} 512 0
 
-    all : (S : Given) → Derived (S .program) (S .synchronising) (S .reached) (S .choice) (at from) → (x : Entry) → DerOf S x (valueAt (valuesOf sizes after before through) x)
+    all : (S : Given) → Derived (S .program) (S .synchronising) (S .reached) (S .choice) from → (x : Entry) → DerOf S x (valueAt (valuesOf sizes after before through) x)
     all S d (size x) = rw (same x) (d .each x)
     all S d (along s n) = rw (ap (λ (q : List ℕ). at q n) (zeros s) ∙ at-zeros 512 n) none

@@ -12,6 +12,7 @@ use Rattle.rules.specs.Choice.{at}
 use Rattle.rules.specs.System.{Entry, size, along, Form, gives, Derived, Solved}
 use Rattle.rules.specs.Causes.{Given, Ok, entryCount}
 use Rattle.rules.specs.Listed.{Says, Lists}
+use Rattle.sizes.specs.Answer.{Written}
 use Rattle.rules.specs.declared.sums.Sum.{Sum}
 use Rattle.rules.specs.declared.sums.Sum.the-variants.{After, Before, Through}
 
@@ -72,39 +73,40 @@ pub record Turning (S : Given) (rules : List ℕ) (i : ℕ) (v : Values) (k : Li
   pub held : clock ≡ started → (j : ℕ) → j < i → (f : Form) → Says (at rules j) f → gives (valueAt v) f ≤ valueAt v (f .head)
 
 -- So it is for every system whose rules are listed, from sizes that they derive; and the clock cannot run over.
-pub record Round (rules : List ℕ) (count : ℕ) (from : List ℕ) (i : ℕ) (v : Values) (k : List ℕ) (clock started turns : ℕ) : Type 0 where
+pub record Round (rules : List ℕ) (count : ℕ) (from : ℕ → ℕ) (i : ℕ) (v : Values) (k : List ℕ) (clock started turns : ℕ) : Type 0 where
   pub places : i ≤ count
   pub later : started ≤ clock
   pub few : turns ≤ started + 1
   pub bound : clock + roomOf v ≤ 251658240
   pub long : Long v k
-  pub turning : (S : Given) → Lists S rules count → Derived (S .program) (S .synchronising) (S .reached) (S .choice) (at from) → Turning S rules i v k clock started
+  pub turning : (S : Given) → Lists S rules count → Derived (S .program) (S .synchronising) (S .reached) (S .choice) from → Turning S rules i v k clock started
 
 -- What falls: with a rise what is left to rise, with a turn that raised something that it did, and with a rule those that are left in the turn.
 abbrev pub left : ℕ → ℕ → Values → ℕ → ℕ → ℕ
 left count i v clock started = 10000 * (roomOf v + min 1 (clock - started)) + (count - i)
 
--- Numbers that the code takes its sizes from: those of the entries, and zeros past them.
-pub record Starts (of : Counts) (from : List ℕ) : Type 0 where
-  pub long : length from ≡ 2304
-  pub sized : (x : ℕ) → at from x ≤ unbounded
-  pub past : (x : ℕ) → 4 * (of .functions + of .nodes) ≤ x → at from x ≡ 0
+-- What the code starts from: the first of the numbers handed in, and zeros.
+unfoldable pub startsFrom : ℕ → List ℕ → ℕ → ℕ
+startsFrom taken numbers x = cond (ltb x taken) (at numbers x) 0
+
+pub record Starts (of : Counts) (taken : ℕ) (numbers : List ℕ) : Type 0 where
+  pub fits : 4 * (of .functions + of .nodes) ≤ length numbers
+  pub few : taken ≤ 4 * (of .functions + of .nodes)
+  pub sized : (x : ℕ) → x < taken → at numbers x ≤ unbounded
 
 -- The first i of them are taken.
-pub record Taken (i : ℕ) (from : List ℕ) (sizes : List ℕ) : Type 0 where
+pub record Taken (i : ℕ) (numbers sizes : List ℕ) : Type 0 where
   pub long : length sizes ≡ 2304
-  pub taken : (x : ℕ) → x < i → at sizes x ≡ at from x
+  pub taken : (x : ℕ) → x < i → at sizes x ≡ at numbers x
   pub rest : (x : ℕ) → i ≤ x → at sizes x ≡ 0
 
--- What going round the rules of a system comes to.
-pub record SolvedFor (S : Given) (of : Counts) (sizes after before : List ℕ) : Type 0 where
+-- What going round the rules of a system comes to, and what is written of it.
+pub record SolvedFor (S : Given) (of : Counts) (old new after before : List ℕ) : Type 0 where
   pub values : Values
   pub solved : Solved (S .program) (S .synchronising) (S .reached) (S .choice) (valueAt values)
-  pub sizes-are : (x : ℕ) → x < 4 * (of .functions + of .nodes) → at (values .sizes) x ≡ at sizes x
+  pub sizes-are : Written (4 * (of .functions + of .nodes)) (at (values .sizes)) old new
   pub after-are : (n : ℕ) → n < of .nodes → at (values .after) n ≡ at after n
   pub before-are : (n : ℕ) → n < of .nodes → at (values .before) n ≡ at before n
 
-pub record Settles (rules : List ℕ) (count : ℕ) (of : Counts) (from sizes after before : List ℕ) : Type 0 where
-  pub long : length sizes ≡ length from
-  pub past : (x : ℕ) → 4 * (of .functions + of .nodes) ≤ x → at sizes x ≡ 0
-  pub settles : (S : Given) → Lists S rules count → Derived (S .program) (S .synchronising) (S .reached) (S .choice) (at from) → SolvedFor S of sizes after before
+pub record Settles (rules : List ℕ) (count : ℕ) (of : Counts) (from : ℕ → ℕ) (old new after before : List ℕ) : Type 0 where
+  pub settles : (S : Given) → Lists S rules count → Derived (S .program) (S .synchronising) (S .reached) (S .choice) from → SolvedFor S of old new after before

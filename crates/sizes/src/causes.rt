@@ -23,6 +23,11 @@ pub(crate) fn narrow(x: usize) -> u16
     x as u16
 }
 
+// A time on the clock as a stamp; the last one stands for all later ones.
+pub(crate) fn stamp(tick: u32) -> u16 {
+    if tick < 65535 { tick as u16 } else { 65535 }
+}
+
 // Whether the causes lead from one entry to another; a cause past the last entry is none. A walk that comes back to its
 // mark runs in a ring that misses the goal; marks stand 1, 2, 4, .. steps on. What is promised is what makes a leap right;
 // that no chain is missed makes it quick, and is seen from the passes that are counted.
@@ -69,15 +74,15 @@ fn caused(causes: &[u16], x: usize, y: usize, z: usize) -> bool
 
 // Whether entry x rose before, and not yet in this pass: then its causes are walked. What feeds itself rises in every pass,
 // so one walk in each finds it, and a line of nodes is not walked for nothing.
-fn is_due(stamps: &[u32], x: usize) -> bool
+fn is_due(stamps: &[u16], x: usize) -> bool
     requires { ⌜ (length (now stamps) ≡ 3841) × (x < 3840) ⌝ }
 {
-    let stamp = stamps[x];
-    (0 < stamp) & (stamp <= stamps[3840])
+    let rose = stamps[x];
+    (0 < rose) & (rose <= stamps[3840])
 }
 
 // The one of y and z that rose last.
-fn later(stamps: &[u32], y: usize, z: usize) -> usize
+fn later(stamps: &[u16], y: usize, z: usize) -> usize
     requires { ⌜ (y < length (now stamps)) × (z < length (now stamps)) ⌝ }
     ensures { λ r. ⌜ (r ≡ y) ⊎ (r ≡ z) ⌝ }
 {
@@ -88,7 +93,7 @@ fn later(stamps: &[u32], y: usize, z: usize) -> usize
 // the stamps say when each entry rose last; after them stands when this pass began.
 pub(crate) fn raised(
     causes: &mut [u16],
-    stamps: &mut [u32],
+    stamps: &mut [u16],
     clock: &mut u32,
     x: usize,
     old: Size,
@@ -112,7 +117,7 @@ pub(crate) fn raised(
         }
     }
     let cause = later(stamps, y, z);
-    stamps[x] = tick;
+    stamps[x] = stamp(tick);
     causes[x] = narrow(cause);
     sum
 }

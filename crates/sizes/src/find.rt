@@ -6,7 +6,7 @@ use rules::list::list_rules;
 use rules::list::room;
 ghost use mathlib.Core.Path.{_≡_};
 ghost use Prim.Native.Nat.{_≤_};
-ghost use lib.ListN.{length, replicate};
+ghost use lib.ListN.{length};
 ghost use Rattle.table.specs.Answer.{Ready};
 ghost use Rattle.table.specs.Program.{programOf};
 ghost use Rattle.sync.specs.Words.{member};
@@ -15,9 +15,8 @@ ghost use Rattle.rules.specs.Choice.{at};
 ghost use Rattle.rules.specs.Rules.{entries};
 ghost use Rattle.rules.specs.Listed.{given, Named, Lists, Widest};
 ghost use Rattle.rules.specs.System.{Derived};
-ghost use Rattle.sizes.specs.Answer.{SizesOf, Written};
-ghost use Rattle.sizes.specs.Call.{Leaves};
-ghost use Rattle.sizes.specs.declared.Answer.the-variants.{Done};
+ghost use Rattle.sizes.specs.Answer.{SizesOf, Written, Found};
+ghost use Rattle.sizes.specs.Values.{startsFrom};
 
 // Writes the first of some numbers.
 pub fn copy(numbers: &[u32], count: usize, out: &mut [u32])
@@ -31,13 +30,14 @@ pub fn copy(numbers: &[u32], count: usize, out: &mut [u32])
     }
 }
 
-// The least sizes of a choice whose rules are listed, from sizes that they derive.
+// The least sizes of a choice whose rules are listed, from sizes that they derive: the first of the numbers there are, and zeros.
 fn settle(
     t: &[u8],
     choice: &[u8],
     known: Known,
     rules: &[u64],
     count: usize,
+    taken: usize,
     numbers: &mut [u32],
     after: &mut [u32],
     before: &mut [u32],
@@ -45,17 +45,17 @@ fn settle(
 )
     requires { ⌜ Ready (now t) (known .of) × Sets (programOf (now t)) (known .synchronising) (known .reached) ⌝ }
     requires { ⌜ (count ≤ length (now rules)) × (count ≤ 8384) × Named (now rules) count × Lists (given (now t) (now choice) known) (now rules) count ⌝ }
-    requires { ⌜ (length (now numbers) ≡ 2304) × Derived (programOf (now t)) (member (known .synchronising)) (member (known .reached)) (at (now choice)) (at (now numbers)) ⌝ }
+    requires { ⌜ (entries (programOf (now t)) ≤ length (now numbers)) × (taken ≤ entries (programOf (now t))) × Derived (programOf (now t)) (member (known .synchronising)) (member (known .reached)) (at (now choice)) (startsFrom taken (now numbers)) ⌝ }
     requires { ⌜ (512 ≤ length (now after)) × (512 ≤ length (now before)) ⌝ }
-    ensures { λ _. ⌜ SizesOf (programOf (now (t .entry))) (member (known .synchronising)) (at (now (choice .entry))) (at (now (numbers .exit))) (at (now (after .exit))) (at (now (before .exit))) ⌝ }
-    ensures { λ _. ⌜ Derived (programOf (now (t .entry))) (member (known .synchronising)) (member (known .reached)) (at (now (choice .entry))) (at (now (numbers .exit))) ⌝ }
+    ensures { λ _. ⌜ Found (programOf (now (t .entry))) (member (known .synchronising)) (member (known .reached)) (at (now (choice .entry))) (now (numbers .entry)) (now (numbers .exit)) (now (after .exit)) (now (before .exit)) ⌝ }
 {
     let mut causes = [65535u16; 3840];
-    let mut stamps = [0u32; 3841];
+    let mut stamps = [0u16; 3841];
     solve(
         rules,
         count,
         known.of,
+        taken,
         numbers,
         &mut causes,
         &mut stamps,
@@ -65,9 +65,9 @@ fn settle(
     );
 }
 
-// The least sizes of a choice, from zeros. Beside them it writes the sums of nodes that safety asks for, and how many passes it took;
-// of that number nothing is promised, and programs with stored output hold it. A table of few rules gets a small list: a large one
-// would take longer to clear than all the rest.
+// The least sizes of a choice, from zeros, written over the first numbers. Beside them it writes the sums of nodes that safety asks for,
+// and how many passes it took; of that number nothing is promised, and programs with stored output hold it. A table of few rules gets a
+// small list: a large one would take longer to clear than all the rest.
 pub fn find(
     t: &[u8],
     choice: &[u8],
@@ -78,11 +78,11 @@ pub fn find(
     passes: &mut u32,
 )
     requires { ⌜ Ready (now t) (known .of) × Sets (programOf (now t)) (known .synchronising) (known .reached) ⌝ }
-    requires { ⌜ (now numbers ≡ replicate 2304 0) × (512 ≤ length (now after)) × (512 ≤ length (now before)) ⌝ }
-    ensures { λ _. ⌜ SizesOf (programOf (now (t .entry))) (member (known .synchronising)) (at (now (choice .entry))) (at (now (numbers .exit))) (at (now (after .exit))) (at (now (before .exit))) ⌝ }
+    requires { ⌜ (entries (programOf (now t)) ≤ length (now numbers)) × (512 ≤ length (now after)) × (512 ≤ length (now before)) ⌝ }
+    ensures { λ _. ⌜ Found (programOf (now (t .entry))) (member (known .synchronising)) (member (known .reached)) (at (now (choice .entry))) (now (numbers .entry)) (now (numbers .exit)) (now (after .exit)) (now (before .exit)) ⌝ }
 {
-    if room(known.of) <= 512 {
-        let mut rules = [0u64; 512];
+    if room(known.of) <= 256 {
+        let mut rules = [0u64; 256];
         let count = list_rules(t, choice, known, &mut rules);
         settle(
             t,
@@ -90,6 +90,7 @@ pub fn find(
             known,
             &rules,
             count,
+            0,
             numbers,
             after,
             before,
@@ -104,6 +105,7 @@ pub fn find(
             known,
             &rules,
             count,
+            0,
             numbers,
             after,
             before,
@@ -129,8 +131,9 @@ pub fn find_from(
     ensures { λ _. ⌜ SizesOf (programOf (now (t .entry))) (member (known .synchronising)) (at (now (choice .entry))) (at (now (numbers .exit))) (at (now (after .exit))) (at (now (before .exit))) ⌝ }
     ensures { λ _. ⌜ Derived (programOf (now (t .entry))) (member (known .synchronising)) (member (known .reached)) (at (now (choice .entry))) (at (now (numbers .exit))) ⌝ }
 {
-    if all.len() <= 512 {
-        let mut rules = [0u64; 512];
+    let taken = 4 * (known.of.functions + known.of.nodes);
+    if all.len() <= 256 {
+        let mut rules = [0u64; 256];
         let count = in_force(t, choice, known, all, &mut rules);
         settle(
             t,
@@ -138,6 +141,7 @@ pub fn find_from(
             known,
             &rules,
             count,
+            taken,
             numbers,
             after,
             before,
@@ -152,31 +156,11 @@ pub fn find_from(
             known,
             &rules,
             count,
+            taken,
             numbers,
             after,
             before,
             passes,
         );
     }
-}
-
-// Finds the least sizes of a choice, and writes them.
-pub fn put(
-    t: &[u8],
-    choice: &[u8],
-    known: Known,
-    numbers: &mut [u32],
-    after: &mut [u32],
-    before: &mut [u32],
-    out: &mut [u32],
-)
-    requires { ⌜ Ready (now t) (known .of) × Sets (programOf (now t)) (known .synchronising) (known .reached) ⌝ }
-    requires { ⌜ (now numbers ≡ replicate 2304 0) × (512 ≤ length (now after)) × (512 ≤ length (now before)) × (entries (programOf (now t)) ≤ length (now out)) ⌝ }
-    ensures { λ _. ⌜ SizesOf (programOf (now (t .entry))) (member (known .synchronising)) (at (now (choice .entry))) (at (now (numbers .exit))) (at (now (after .exit))) (at (now (before .exit))) ⌝ }
-    ensures { λ _. ⌜ Leaves (now (t .entry)) (now (choice .entry)) (now (out .entry)) Done (now (out .exit)) ⌝ }
-{
-    let mut passes: u32 = 0;
-    find(t, choice, known, numbers, after, before, &mut passes);
-    let count = 4 * (known.of.functions + known.of.nodes);
-    copy(numbers, count, out);
 }

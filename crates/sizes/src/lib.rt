@@ -5,7 +5,7 @@ pub mod find;
 mod solve;
 
 use admit::admit;
-use find::put;
+use find::find;
 ghost use mathlib.Core.Path.{_≡_};
 ghost use lib.ListN.{length};
 ghost use Rattle.sizes.specs.Call.{result, resultOf, Leaves};
@@ -28,10 +28,10 @@ pub fn sizes(t: &[u8], choice: &[u8], out: &mut [u32]) -> Answer
     match answer {
         Answer::Refused(number, place) => Answer::Refused(number, place),
         Answer::Done => {
-            let mut numbers = [0u32; 2304];
             let mut after = [0u32; 512];
             let mut before = [0u32; 512];
-            put(t, choice, known, &mut numbers, &mut after, &mut before, out);
+            let mut passes: u32 = 0;
+            find(t, choice, known, out, &mut after, &mut before, &mut passes);
             Answer::Done
         }
     }

@@ -1,5 +1,6 @@
 // The least solution of listed rules: entries rise until a turn over all rules raises nothing.
 use crate::causes::raised;
+use crate::causes::stamp;
 use size::Size;
 use table::Counts;
 ghost use mathlib.Core.Path.{_≡_};
@@ -12,7 +13,7 @@ ghost use Rattle.size.specs.Size.{valueOf, cap};
 ghost use Rattle.rules.specs.Choice.{at};
 ghost use Rattle.sizes.specs.Answer.{Written};
 ghost use Rattle.rules.specs.Listed.{headOf, partOf, otherOf, baseOf, Named};
-ghost use Rattle.sizes.specs.Values.{sizePlace, sumPlace, picked, Starts, Settles};
+ghost use Rattle.sizes.specs.Values.{sizePlace, sumPlace, picked, startsFrom, Starts, Settles};
 
 // By a call, so that arrays are cleared in words and not field by field.
 fn zero() -> Size
@@ -129,32 +130,32 @@ fn second(part: usize, other: usize) -> usize
 }
 
 // Goes round the rules, from sizes that they derive and sums of zero, until a turn raises nothing. What is there at the start has no
-// causes. The sizes are taken from the numbers handed in, and written there; so are the sums that safety asks for, and how many turns
-// it took.
+// causes. The first sizes are taken from the numbers handed in, the others are zeros; the numbers are written over with what they come to.
+// Beside them it writes the sums that safety asks for, and how many turns it took.
 pub(crate) fn solve(
     rules: &[u64],
     count: usize,
     of: Counts,
+    taken: usize,
     numbers: &mut [u32],
     causes: &mut [u16],
-    stamps: &mut [u32],
+    stamps: &mut [u16],
     afters: &mut [u32],
     befores: &mut [u32],
     passes: &mut u32,
 )
     requires { ⌜ (count ≤ length (now rules)) × (count ≤ 8384) × Named (now rules) count ⌝ }
-    requires { ⌜ (of .functions ≤ 64) × (of .nodes ≤ 512) × Starts of (now numbers) ⌝ }
+    requires { ⌜ (of .functions ≤ 64) × (of .nodes ≤ 512) × Starts of taken (now numbers) ⌝ }
     requires { ⌜ (now causes ≡ replicate 3840 65535) × (length (now stamps) ≡ 3841) ⌝ }
     requires { ⌜ (of .nodes ≤ length (now afters)) × (of .nodes ≤ length (now befores)) ⌝ }
-    ensures { λ _. ⌜ Settles (now (rules .entry)) count of (now (numbers .entry)) (now (numbers .exit)) (now (afters .exit)) (now (befores .exit)) ⌝ }
+    ensures { λ _. ⌜ Settles (now (rules .entry)) count of (startsFrom taken (now (numbers .entry))) (now (numbers .entry)) (now (numbers .exit)) (now (afters .exit)) (now (befores .exit)) ⌝ }
 {
-    let entries = 4 * (of.functions + of.nodes);
     let mut sizes = zero_sizes();
     let mut after = zero_sums();
     let mut before = zero_sums();
     let mut through = zero_sums();
     let mut i: usize = 0;
-    while i < entries {
+    while i < taken {
         sizes[i] = Size::from_frame(numbers[i]);
         i += 1;
     }
@@ -202,14 +203,14 @@ pub(crate) fn solve(
             }
         } else {
             if clock == started {
-                write_sizes(sizes, entries, numbers);
+                write_sizes(sizes, 4 * (of.functions + of.nodes), numbers);
                 write_sums(after, of.nodes, afters);
                 write_sums(before, of.nodes, befores);
                 *passes = turns;
                 return;
             }
             started = clock;
-            stamps[3840] = started;
+            stamps[3840] = stamp(started);
             turns += 1;
             i = 0;
         }

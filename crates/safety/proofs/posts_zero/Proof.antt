@@ -3,7 +3,7 @@ use Prim.Native.Nat.{_+_, _-_, _*_, _≤_}
 use mathlib.Core.Path.{_≡_, sym, ap, _∙_}
 use native.Mathlib.Omega.{arith}
 use Rattle.table.specs.Program.{programOf}
-use Rattle.table.proofs.Ready.{few-functions}
+use Rattle.table.proofs.Ready.{few-functions, functions-are}
 use Rattle.rules.specs.Choice.{at}
 use Rattle.safety.specs.Test.{PostsBelow}
 use Rattle.safety.proofs.Testing.{tells-yes, tells-no, posts-none, posts-more}
@@ -38,7 +38,10 @@ mul-if3-2 : tie.Need-mul-if3-2 Inv-loop μ-loop
 mul-if3-2 c = search needs
 
 shared-slice-read-if3 : tie.Need-shared-slice-read-if3 Inv-loop μ-loop
-shared-slice-read-if3 c = search needs
+shared-slice-read-if3 c =
+    let a = c .before .before .before .before .before .before .before .before .before .args in
+    let p = c .before .before .before .before .before .before .before .before .before .pre in
+    omega (arith, c .before .target-of .ensures, p .1, functions-are (a .t .now) (a .of) (p .0))
 
 returns : tie.Need-returns Inv-loop μ-loop
 returns c =

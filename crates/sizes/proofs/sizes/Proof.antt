@@ -1,10 +1,10 @@
+use borrow.Author.Needs.{needs}
 use mathlib.Core.Path.{refl, sym, ap, _∙_}
 use native.Mathlib.Omega.{arith}
 use lib.ListN.{length}
 use Rattle.sizes.specs.Call.{resultOf}
 use Rattle.sizes.specs.Known.{call}
-use Rattle.sizes.proofs.Calls.{admission}
-use borrow.Author.Needs.{needs}
+use Rattle.sizes.proofs.Calls.{admission, found-leaves}
 use Rattle.sizes.proofs.sizes.Statement.{statement}
 use Rattle.sizes.proofs.sizes.Tie as tie
 
@@ -17,21 +17,18 @@ enum-known-answer c = search needs
 enum-told : tie.Need-enum-told
 enum-told c = search needs
 
-slice-aggregate-put : tie.Need-slice-aggregate-put
-slice-aggregate-put c = search needs
+slice-aggregate-find : tie.Need-slice-aggregate-find
+slice-aggregate-find c = search needs
 
-slice-aggregate-put-2 : tie.Need-slice-aggregate-put-2
-slice-aggregate-put-2 c = search needs
+slice-aggregate-find-2 : tie.Need-slice-aggregate-find-2
+slice-aggregate-find-2 c = search needs
 
-slice-aggregate-put-3 : tie.Need-slice-aggregate-put-3
-slice-aggregate-put-3 c = search needs
-
-put-requires : tie.Need-put-requires
-put-requires c κs =
+find-requires : tie.Need-find-requires
+find-requires c κs =
     let a = c .before .before .before .before .before .before .before .before .before .before .before .args in
     let d = c .before .before .before .before .before .before .before .admit in
     let q = admission (call (a .t .now) (a .choice .now) (length (a .out .now))) (d .result .answer) (d .result .known) (c .before .before .before .before .enum-told .given .1) (d .ensures .0) (d .ensures .1) in
-    ((q .ready, q .sets), (refl, omega arith, omega arith, q .valid .fits))
+    ((q .ready, q .sets), (q .valid .fits, omega arith, omega arith))
 
 returns : tie.Need-returns
 returns c = (sym (ap resultOf (c .before .answer .given .1)) ∙ c .before .before .before .before .admit .ensures .0, refl)
@@ -41,10 +38,10 @@ same-length c = search needs
 
 returns-2 : tie.Need-returns-2
 returns-2 c =
-    let a = c .before .before .before .before .before .before .before .before .before .before .before .before .before .before .before .before .before .args in
-    let d = c .before .before .before .before .before .before .before .before .before .before .before .before .before .admit in
-    let q = admission (call (a .t .now) (a .choice .now) (length (a .out .now))) (d .result .answer) (d .result .known) (c .before .before .before .before .before .before .before .before .before .before .enum-told .given .1) (d .ensures .0) (d .ensures .1) in
-    (q .done-is, c .before .before .before .before .before .put .ensures .1)
+    let a = c .before .before .before .before .before .before .before .before .before .before .before .before .before .before .before .before .args in
+    let d = c .before .before .before .before .before .before .before .before .before .before .before .before .admit in
+    let q = admission (call (a .t .now) (a .choice .now) (length (a .out .now))) (d .result .answer) (d .result .known) (c .before .before .before .before .before .before .before .before .before .enum-told .given .1) (d .ensures .0) (d .ensures .1) in
+    (q .done-is, found-leaves (a .t .now) (a .choice .now) (d .result .known) (q .sets) (c .before .before .before .before .find .ensures))
 
 pub sizes-spec : {M : Type 1} → statement M
 sizes-spec =
@@ -53,10 +50,9 @@ sizes-spec =
     admit-requires
     enum-known-answer
     enum-told
-    slice-aggregate-put
-    slice-aggregate-put-2
-    slice-aggregate-put-3
-    put-requires
+    slice-aggregate-find
+    slice-aggregate-find-2
+    find-requires
     returns
     same-length
     returns-2)

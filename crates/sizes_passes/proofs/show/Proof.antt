@@ -1,4 +1,3 @@
-use mathlib.Core.Path.{refl}
 use native.Mathlib.Omega.{arith}
 use Rattle.sizes.specs.Known.{call}
 use Rattle.sizes.proofs.Calls.{admission}
@@ -35,7 +34,7 @@ find-requires c κs =
     let a = c .before .before .before .before .before .before .before .before .before .before .before .before .before .before .args in
     let d = c .before .before .before .before .before .before .before .admit in
     let q = admission (call (a .t .now) (a .choice .now) 2304) (d .result .answer) (d .result .known) (c .before .before .before .before .enum-told .given .1) (d .ensures .0) (d .ensures .1) in
-    ((q .ready, q .sets), (refl, omega arith, omega arith))
+    ((q .ready, q .sets), (q .valid .fits, omega arith, omega arith))
 
 print-decimal-requires : tie.Need-print-decimal-requires
 print-decimal-requires c κs = search needs

@@ -48,6 +48,9 @@ returns-2 c =
 later-requires : tie.Need-later-requires
 later-requires c κs = search needs
 
+stamp-requires : tie.Need-stamp-requires
+stamp-requires c κs = search needs
+
 mul-stamps : tie.Need-mul-stamps
 mul-stamps c = search needs
 
@@ -55,7 +58,7 @@ slice-write-stamps : tie.Need-slice-write-stamps
 slice-write-stamps c = search needs
 
 narrow-requires : tie.Need-narrow-requires
-narrow-requires c κs = ⊎-elim (λ e. omega arith) (λ e. omega arith) (c .later .ensures)
+narrow-requires c κs = ⊎-elim (λ e. omega arith) (λ e. omega arith) (c .before .later .ensures)
 
 mul-causes-2 : tie.Need-mul-causes-2
 mul-causes-2 c = search needs
@@ -72,9 +75,9 @@ same-length-4 c = search needs
 returns-3 : tie.Need-returns-3
 returns-3 c =
     risen
-    (omega (arith, c .before .before .before .before .before .before .before .before .number2 .ensures, c .before .before .before .before .before .before .before .before .before .number .ensures))
+    (omega (arith, c .before .before .before .before .before .before .before .before .before .number2 .ensures, c .before .before .before .before .before .before .before .before .before .before .number .ensures))
     (c .narrow .result)
-    (⊎-elim (λ e. inl (c .narrow .ensures ∙ e)) (λ e. inr (c .narrow .ensures ∙ e)) (c .before .later .ensures))
+    (⊎-elim (λ e. inl (c .narrow .ensures ∙ e)) (λ e. inr (c .narrow .ensures ∙ e)) (c .before .before .later .ensures))
     refl
     refl
     refl
@@ -95,6 +98,7 @@ raised-spec =
     same-length-2
     returns-2
     later-requires
+    stamp-requires
     mul-stamps
     slice-write-stamps
     narrow-requires

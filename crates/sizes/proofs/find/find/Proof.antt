@@ -1,13 +1,7 @@
-use Prim.Native.Nat.{ℕ}
-use mathlib.Core.Path.{ap, _∙_}
-use native.Mathlib.Omega.{arith}
-use lib.ListN.{length, length-replicate}
-use Rattle.table.specs.Program.{programOf}
-use Rattle.sync.specs.Words.{member}
-use Rattle.rules.specs.Choice.{at}
-use Rattle.rules.proofs.Bounds.{slots-few}
-use Rattle.sizes.proofs.Laws.{derived-zeros}
 use borrow.Author.Needs.{needs}
+use native.Mathlib.Omega.{arith}
+use Rattle.rules.proofs.Bounds.{slots-few}
+use Rattle.sizes.proofs.Closing.{derived-none}
 use Rattle.sizes.proofs.find.find.Statement.{statement}
 use Rattle.sizes.proofs.find.find.Tie as tie
 
@@ -28,7 +22,7 @@ settle-requires c κs =
     let a = c .before .before .before .before .before .before .before .before .before .before .before .before .before .before .before .args in
     let p = c .before .before .before .before .before .before .before .before .before .before .before .before .before .before .before .pre in
     let l = c .before .before .before .before .before .before .list-rules .ensures in
-    (p .0, ((omega (arith, l .0 .0, c .before .before .before .before .before .before .before .before .if1 .taken, c .before .before .before .before .before .before .before .before .before .room .ensures, l .0 .1), omega (arith, l .0 .1, slots-few (p .0 .0)), l .0 .2, l .1), ((ap length (p .1 .0) ∙ length-replicate {A = ℕ} 2304 0, derived-zeros (programOf (a .t .now)) (member (a .known .synchronising)) (member (a .known .reached)) (at (a .choice .now)) (a .numbers .now) 2304 (p .1 .0)), (p .1 .1, p .1 .2))))
+    (p .0, ((omega (arith, l .0 .0, c .before .before .before .before .before .before .before .before .if1 .taken, c .before .before .before .before .before .before .before .before .before .room .ensures, l .0 .1), omega (arith, l .0 .1, slots-few (p .0 .0)), l .0 .2, l .1), ((p .1 .0, omega arith, derived-none (a .t .now) (a .choice .now) (a .known) (p .0 .0) (a .numbers .now)), (p .1 .1, p .1 .2))))
 
 slice-aggregate-list-rules-2 : tie.Need-slice-aggregate-list-rules-2
 slice-aggregate-list-rules-2 c = search needs
@@ -44,7 +38,7 @@ settle-requires-2 c κs =
     let a = c .before .before .before .before .before .before .before .before .before .before .before .before .before .before .before .args in
     let p = c .before .before .before .before .before .before .before .before .before .before .before .before .before .before .before .pre in
     let l = c .before .before .before .before .before .before .list-rules2 .ensures in
-    (p .0, ((omega (arith, l .0 .0, slots-few (p .0 .0), l .0 .1), omega (arith, l .0 .1, slots-few (p .0 .0)), l .0 .2, l .1), ((ap length (p .1 .0) ∙ length-replicate {A = ℕ} 2304 0, derived-zeros (programOf (a .t .now)) (member (a .known .synchronising)) (member (a .known .reached)) (at (a .choice .now)) (a .numbers .now) 2304 (p .1 .0)), (p .1 .1, p .1 .2))))
+    (p .0, ((omega (arith, l .0 .0, slots-few (p .0 .0), l .0 .1), omega (arith, l .0 .1, slots-few (p .0 .0)), l .0 .2, l .1), ((p .1 .0, omega arith, derived-none (a .t .now) (a .choice .now) (a .known) (p .0 .0) (a .numbers .now)), (p .1 .1, p .1 .2))))
 
 same-length : tie.Need-same-length
 same-length c = search needs

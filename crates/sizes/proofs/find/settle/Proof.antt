@@ -1,10 +1,10 @@
+use borrow.Author.Needs.{needs}
 use Prim.Native.Nat.{ℕ}
 use mathlib.Core.Path.{refl}
 use native.Mathlib.Omega.{arith}
 use lib.ListN.{length-replicate}
 use Rattle.table.proofs.Ready.{few-functions, few-nodes}
-use Rattle.sizes.proofs.Closing.{starts, sizes-found, sizes-derived}
-use borrow.Author.Needs.{needs}
+use Rattle.sizes.proofs.Closing.{starts, found}
 use Rattle.sizes.proofs.find.settle.Statement.{statement}
 use Rattle.sizes.proofs.find.settle.Tie as tie
 
@@ -17,9 +17,13 @@ slice-aggregate-solve-2 c = search needs
 solve-requires : tie.Need-solve-requires
 solve-requires c κs =
     let a = c .before .before .before .before .before .before .before .before .before .before .before .before .args in
-    let p = c .before .before .before .before .before .before .before .before .before .before .before .before .pre in (
+    let p = c .before .before .before .before .before .before .before .before .before .before .before .before .pre in
+    let f = few-nodes (a .t .now) (a .known .of) (p .0 .0) in (
       (p .1 .0 .0, p .1 .0 .1, p .1 .0 .2),
-      ((few-functions (a .t .now) (a .known .of) (p .0 .0), few-nodes (a .t .now) (a .known .of) (p .0 .0), starts (a .t .now) (a .choice .now) (a .known) (p .0 .0) (a .numbers .now) (p .1 .1 .0 .0) (p .1 .1 .0 .1)), ((refl, length-replicate {A = ℕ} 3841 0), (omega (arith, few-nodes (a .t .now) (a .known .of) (p .0 .0), p .1 .1 .1), omega (arith, few-nodes (a .t .now) (a .known .of) (p .0 .0), p .1 .1 .1)))),
+      (
+        (few-functions (a .t .now) (a .known .of) (p .0 .0), f, starts (a .t .now) (a .choice .now) (a .known) (p .0 .0) (a .taken) (a .numbers .now) (p .1 .1 .0 .0) (p .1 .1 .0 .1) (p .1 .1 .0 .2)),
+        ((refl, length-replicate {A = ℕ} 3841 0), (omega (arith, f, p .1 .1 .1), omega (arith, f, p .1 .1 .1))),
+      ),
     )
 
 same-length : tie.Need-same-length
@@ -35,10 +39,7 @@ returns : tie.Need-returns
 returns c =
     let a = c .before .before .before .before .before .before .before .before .before .before .before .before .before .before .before .before .before .before .before .before .before .args in
     let p = c .before .before .before .before .before .before .before .before .before .before .before .before .before .before .before .before .before .before .before .before .before .pre in
-    let s = c .before .before .before .before .before .before .before .before .solve .ensures in (
-      sizes-found (a .t .now) (a .choice .now) (a .known) (p .0 .0) (p .0 .1) s (p .1 .0 .3) (p .1 .1 .0 .1),
-      sizes-derived (a .t .now) (a .choice .now) (a .known) (p .0 .0) (p .0 .1) s (p .1 .0 .3) (p .1 .1 .0 .1),
-    )
+    found (a .t .now) (a .choice .now) (a .known) (p .0 .0) (p .0 .1) (c .before .before .before .before .before .before .before .before .solve .ensures) (p .1 .0 .3) (p .1 .1 .0 .2)
 
 pub settle-spec : {M : Type 1} → statement M
 settle-spec =

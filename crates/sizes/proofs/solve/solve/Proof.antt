@@ -1,36 +1,29 @@
 -- The first loop takes the numbers over. In the second a turn over the rules has come to rule i, and the lent buffers are as they were.
 use Prim.Native.Nat.{ℕ, _+_, _-_, _*_, _<_, _≤_}
 use mathlib.Core.Path.{_≡_, refl, sym, ap, _∙_}
-use mathlib.Core.List.{List, map}
+use mathlib.Core.List.{map}
 use native.Mathlib.Omega.{arith}
 use lib.ListN.{length, getD, length-replicate, length-set}
 use borrow.Author.Needs.{needs}
 use Rattle.size.specs.Size.{valueOf}
 use Rattle.size.specs.declared.Size.the-variants.{Bytes}
 use Rattle.size.proofs.Values.{value-is}
-use Rattle.rules.specs.Choice.{at}
-use Rattle.sizes.specs.Values.{valuesOf, Round, left, Taken}
+use Rattle.sizes.specs.Values.{valuesOf, Round, left, startsFrom, Taken}
 use Rattle.sizes.proofs.Turns.{second-low, asked-read, old-size, old-after, old-before, old-through, new-size, new-after, new-before, new-through, cap-is, taken-none, taken-next, taken-all, round-start, round-less, round-on, round-again, again-less, round-solved}
 use Rattle.sizes.proofs.solve.solve.Statement.{statement}
 use Rattle.sizes.proofs.solve.solve.Tie as tie
 
 abbrev Inv-loop : tie.InvT-loop
-Inv-loop rules count of numbers causes stamps afters befores passes entries sizes₀ after before through i₀ sizes i = (i ≤ entries) × Taken i numbers (map valueOf sizes)
+Inv-loop rules count of taken numbers causes stamps afters befores passes sizes₀ after before through i₀ sizes i = (i ≤ taken) × Taken i numbers (map valueOf sizes)
 
 abbrev μ-loop : tie.MeasureT-loop
-μ-loop rules count of numbers causes stamps afters befores passes entries sizes₀ after before through i₀ sizes i = entries - i
+μ-loop rules count of taken numbers causes stamps afters befores passes sizes₀ after before through i₀ sizes i = taken - i
 
 abbrev Inv-loop2 : tie.InvT-loop2
-Inv-loop2 rules count of numbers₀ causes₀ stamps₀ afters₀ befores₀ passes₀ entries sizes₀ after₀ before₀ through₀ i₀ clock₀ started₀ turns₀ numbers causes stamps afters befores passes sizes after before through i clock started turns = Round rules count numbers₀ i (valuesOf sizes after before through) causes clock started turns × (length stamps ≡ 3841) × (length afters ≡ length afters₀) × (length befores ≡ length befores₀) × (numbers ≡ numbers₀)
+Inv-loop2 rules count of taken numbers₀ causes₀ stamps₀ afters₀ befores₀ passes₀ sizes₀ after₀ before₀ through₀ i₀ clock₀ started₀ turns₀ numbers causes stamps afters befores passes sizes after before through i clock started turns = Round rules count (startsFrom taken numbers₀) i (valuesOf sizes after before through) causes clock started turns × (length stamps ≡ 3841) × (length afters ≡ length afters₀) × (length befores ≡ length befores₀) × (numbers ≡ numbers₀)
 
 abbrev μ-loop2 : tie.MeasureT-loop2
-μ-loop2 rules count of numbers₀ causes₀ stamps₀ afters₀ befores₀ passes₀ entries sizes₀ after₀ before₀ through₀ i₀ clock₀ started₀ turns₀ numbers causes stamps afters befores passes sizes after before through i clock started turns = left count i (valuesOf sizes after before through) clock started
-
-add-entries : tie.Need-add-entries Inv-loop μ-loop Inv-loop2 μ-loop2
-add-entries c = search needs
-
-mul-entries : tie.Need-mul-entries Inv-loop μ-loop Inv-loop2 μ-loop2
-mul-entries c = search needs
+μ-loop2 rules count of taken numbers₀ causes₀ stamps₀ afters₀ befores₀ passes₀ sizes₀ after₀ before₀ through₀ i₀ clock₀ started₀ turns₀ numbers causes stamps afters befores passes sizes after before through i clock started turns = left count i (valuesOf sizes after before through) clock started
 
 zero-sizes-requires : tie.Need-zero-sizes-requires Inv-loop μ-loop Inv-loop2 μ-loop2
 zero-sizes-requires c κs = search needs
@@ -45,7 +38,7 @@ zero-sums-requires-3 : tie.Need-zero-sums-requires-3 Inv-loop μ-loop Inv-loop2 
 zero-sums-requires-3 c κs = search needs
 
 loop-holds : tie.Need-loop-holds Inv-loop μ-loop Inv-loop2 μ-loop2
-loop-holds c = (omega arith, taken-none (c .before .before .before .before .before .before .before .before .before .before .before .args .numbers .now) (map valueOf (c .before .before .before .zero-sizes .result)) (c .before .before .before .zero-sizes .ensures))
+loop-holds c = (omega arith, taken-none (c .before .before .before .before .before .before .before .before .before .before .args .numbers .now) (map valueOf (c .before .before .before .zero-sizes .result)) (c .before .before .before .zero-sizes .ensures))
 
 mul-from-frame : tie.Need-mul-from-frame Inv-loop μ-loop Inv-loop2 μ-loop2
 mul-from-frame c = search needs
@@ -71,18 +64,18 @@ loop-less c = search needs
 loop-again : tie.Need-loop-again Inv-loop μ-loop Inv-loop2 μ-loop2
 loop-again c =
     let L = c .before .before .before .loop in
-    let s = c .before .before .before .before .before .before .before .before .before .before .before .before .before .before .before .pre .1 .0 .2 in (
+    let s = c .before .before .before .before .before .before .before .before .before .before .before .before .before .before .pre .1 .0 .2 in (
       omega (arith, c .before .before .loop-test .taken),
-      taken-next (c .before .before .before .before .before .before .before .before .before .before .before .before .before .before .before .args .numbers .now) (L .sizes) (L .i) (c .from-frame .result) (L .inv .1) (omega (arith, c .before .before .loop-test .taken, c .before .before .before .before .before .before .before .before .before .before .before .before .before .before .before .pre .1 .0 .0, c .before .before .before .before .before .before .before .before .before .before .before .before .before .before .before .pre .1 .0 .1)) (value-is (c .from-frame .result) _ (c .from-frame .ensures) ∙ cap-is (s .sized (L .i))),
+      taken-next (c .before .before .before .before .before .before .before .before .before .before .before .before .before .before .args .numbers .now) (L .sizes) (L .i) (c .from-frame .result) (L .inv .1) (omega (arith, c .before .before .loop-test .taken, c .before .before .before .before .before .before .before .before .before .before .before .before .before .before .pre .1 .0 .0, c .before .before .before .before .before .before .before .before .before .before .before .before .before .before .pre .1 .0 .1, s .few)) (value-is (c .from-frame .result) _ (c .from-frame .ensures) ∙ cap-is (s .sized (L .i) (c .before .before .loop-test .taken))),
     )
 
 loop2-holds : tie.Need-loop2-holds Inv-loop μ-loop Inv-loop2 μ-loop2
 loop2-holds c =
-    let a = c .before .before .before .before .before .before .before .before .before .before .before .before .before .args in
-    let p = c .before .before .before .before .before .before .before .before .before .before .before .before .before .pre in
+    let a = c .before .before .before .before .before .before .before .before .before .before .before .before .args in
+    let p = c .before .before .before .before .before .before .before .before .before .before .before .before .pre in
     let L = c .before .loop in
-    let same = taken-all (a .of) (a .numbers .now) (map valueOf (L .sizes)) (L .i) (p .1 .0 .2) (L .inv .1) (omega (arith, L .inv .0, c .loop-test .left)) in (
-      round-start (a .rules .now) (a .count) (a .numbers .now) (L .sizes) (c .before .before .before .before .zero-sums .result) (c .before .before .before .zero-sums2 .result) (c .before .before .zero-sums3 .result) (a .causes .now) (L .inv .1 .long) same (c .before .before .before .before .zero-sums .ensures) (c .before .before .before .zero-sums2 .ensures) (c .before .before .zero-sums3 .ensures) (p .1 .1 .0 .0),
+    let same = taken-all (a .taken) (a .numbers .now) (map valueOf (L .sizes)) (L .i) (L .inv .1) (omega (arith, L .inv .0, c .loop-test .left)) in (
+      round-start (a .rules .now) (a .count) (startsFrom (a .taken) (a .numbers .now)) (L .sizes) (c .before .before .before .before .zero-sums .result) (c .before .before .before .zero-sums2 .result) (c .before .before .zero-sums3 .result) (a .causes .now) (L .inv .1 .long) same (c .before .before .before .before .zero-sums .ensures) (c .before .before .before .zero-sums2 .ensures) (c .before .before .zero-sums3 .ensures) (p .1 .1 .0 .0),
       p .1 .1 .0 .1,
       refl,
       refl,
@@ -104,7 +97,7 @@ add-i-2 c = search needs
 sum-place-requires : tie.Need-sum-place-requires Inv-loop μ-loop Inv-loop2 μ-loop2
 sum-place-requires c κs =
     let L = c .before .before .before .loop2 in
-    omega (arith, c .unpacked .ensures .2, c .before .before .before .before .before .before .before .before .before .before .before .before .before .before .before .before .before .pre .0 .2 .parts (L .i) (c .before .before .if1 .taken))
+    omega (arith, c .unpacked .ensures .2, c .before .before .before .before .before .before .before .before .before .before .before .before .before .before .before .before .pre .0 .2 .parts (L .i) (c .before .before .if1 .taken))
 
 size-place-requires : tie.Need-size-place-requires Inv-loop μ-loop Inv-loop2 μ-loop2
 size-place-requires c κs = search needs
@@ -161,8 +154,8 @@ raised-requires : tie.Need-raised-requires Inv-loop μ-loop Inv-loop2 μ-loop2
 raised-requires c κs =
     let L = c .before .before .before .before .before .before .before .before .before .before .before .before .before .before .before .before .before .before .before .loop2 in
     let u = c .before .before .before .before .before .before .before .before .before .before .before .before .before .before .before .before .unpacked in
-    let here : L .i < c .before .before .before .before .before .before .before .before .before .before .before .before .before .before .before .before .before .before .before .before .before .before .before .before .before .before .before .before .before .before .before .before .before .args .count = c .before .before .before .before .before .before .before .before .before .before .before .before .before .before .before .before .before .before .if1 .taken in
-    let named = c .before .before .before .before .before .before .before .before .before .before .before .before .before .before .before .before .before .before .before .before .before .before .before .before .before .before .before .before .before .before .before .before .before .pre .0 .2 in
+    let here : L .i < c .before .before .before .before .before .before .before .before .before .before .before .before .before .before .before .before .before .before .before .before .before .before .before .before .before .before .before .before .before .before .before .before .args .count = c .before .before .before .before .before .before .before .before .before .before .before .before .before .before .before .before .before .before .if1 .taken in
+    let named = c .before .before .before .before .before .before .before .before .before .before .before .before .before .before .before .before .before .before .before .before .before .before .before .before .before .before .before .before .before .before .before .before .pre .0 .2 in
     let part : u .result .part < 3840 = omega (arith, u .ensures .2, named .parts (L .i) here) in (
       (L .inv .0 .long .causes-long, L .inv .1, omega (arith, L .inv .0 .bound)),
       (omega (arith, u .ensures .0, named .heads (L .i) here), part, rw (c .before .before .before .before .before .second .ensures) (second-low (u .result .part) (u .result .other) part)),
@@ -178,10 +171,10 @@ loop2-less : tie.Need-loop2-less Inv-loop μ-loop Inv-loop2 μ-loop2
 loop2-less c =
     let L = c .before .before .before .before .before .before .before .before .before .before .before .before .before .before .before .before .before .before .before .before .before .before .before .before .loop2 in
     let u = c .before .before .before .before .before .before .before .before .before .before .before .before .before .before .before .before .before .before .before .before .before .unpacked in
-    let here : L .i < c .before .before .before .before .before .before .before .before .before .before .before .before .before .before .before .before .before .before .before .before .before .before .before .before .before .before .before .before .before .before .before .before .before .before .before .before .before .before .args .count = c .before .before .before .before .before .before .before .before .before .before .before .before .before .before .before .before .before .before .before .before .before .before .before .if1 .taken in
+    let here : L .i < c .before .before .before .before .before .before .before .before .before .before .before .before .before .before .before .before .before .before .before .before .before .before .before .before .before .before .before .before .before .before .before .before .before .before .before .before .before .args .count = c .before .before .before .before .before .before .before .before .before .before .before .before .before .before .before .before .before .before .before .before .before .before .before .if1 .taken in
     let R = c .before .before .before .before .raised in
     let x = u .result .head in
-    let low : x < 3840 = omega (arith, u .ensures .0, c .before .before .before .before .before .before .before .before .before .before .before .before .before .before .before .before .before .before .before .before .before .before .before .before .before .before .before .before .before .before .before .before .before .before .before .before .before .before .pre .0 .2 .heads (L .i) here) in
+    let low : x < 3840 = omega (arith, u .ensures .0, c .before .before .before .before .before .before .before .before .before .before .before .before .before .before .before .before .before .before .before .before .before .before .before .before .before .before .before .before .before .before .before .before .before .before .before .before .before .pre .0 .2 .heads (L .i) here) in
     let sum =
     asked-read (L .sizes) (L .after) (L .before) (L .through) (u .result .base) (u .result .part) (u .result .other) (c .before .before .before .before .before .before .before .before .before .before .before .before .before .before .before .before .before .before .before .size-place .result) (c .before .before .before .before .before .before .before .before .before .before .before .before .before .before .before .before .before .before .before .before .sum-place .result) (c .before .before .before .before .before .before .before .before .before .before .before .before .before .size-place2 .result) (valueOf (c .before .before .before .before .before .before .before .before .before .before .before .before .before .before .pick .result)) (valueOf (c .before .before .before .before .before .before .before .before .before .before .before .sum-of .result))
     (c .before .before .before .before .before .before .before .before .before .before .before .before .before .before .before .before .before .before .before .size-place .ensures .0) (c .before .before .before .before .before .before .before .before .before .before .before .before .before .before .before .before .before .before .before .before .sum-place .ensures .0) (c .before .before .before .before .before .before .before .before .before .before .before .before .before .size-place2 .ensures .0) (c .before .before .before .before .before .before .before .before .before .before .before .before .before .before .pick .ensures) (c .before .before .before .before .before .before .before .before .before .before .before .sum-of .ensures) in
@@ -194,10 +187,10 @@ loop2-again : tie.Need-loop2-again Inv-loop μ-loop Inv-loop2 μ-loop2
 loop2-again c =
     let L = c .before .before .before .before .before .before .before .before .before .before .before .before .before .before .before .before .before .before .before .before .before .before .before .before .loop2 in
     let u = c .before .before .before .before .before .before .before .before .before .before .before .before .before .before .before .before .before .before .before .before .before .unpacked in
-    let here : L .i < c .before .before .before .before .before .before .before .before .before .before .before .before .before .before .before .before .before .before .before .before .before .before .before .before .before .before .before .before .before .before .before .before .before .before .before .before .before .before .args .count = c .before .before .before .before .before .before .before .before .before .before .before .before .before .before .before .before .before .before .before .before .before .before .before .if1 .taken in
+    let here : L .i < c .before .before .before .before .before .before .before .before .before .before .before .before .before .before .before .before .before .before .before .before .before .before .before .before .before .before .before .before .before .before .before .before .before .before .before .before .before .args .count = c .before .before .before .before .before .before .before .before .before .before .before .before .before .before .before .before .before .before .before .before .before .before .before .if1 .taken in
     let R = c .before .before .before .before .raised in
     let x = u .result .head in
-    let low : x < 3840 = omega (arith, u .ensures .0, c .before .before .before .before .before .before .before .before .before .before .before .before .before .before .before .before .before .before .before .before .before .before .before .before .before .before .before .before .before .before .before .before .before .before .before .before .before .before .pre .0 .2 .heads (L .i) here) in
+    let low : x < 3840 = omega (arith, u .ensures .0, c .before .before .before .before .before .before .before .before .before .before .before .before .before .before .before .before .before .before .before .before .before .before .before .before .before .before .before .before .before .before .before .before .before .before .before .before .before .pre .0 .2 .heads (L .i) here) in
     let sum =
     asked-read (L .sizes) (L .after) (L .before) (L .through) (u .result .base) (u .result .part) (u .result .other) (c .before .before .before .before .before .before .before .before .before .before .before .before .before .before .before .before .before .before .before .size-place .result) (c .before .before .before .before .before .before .before .before .before .before .before .before .before .before .before .before .before .before .before .before .sum-place .result) (c .before .before .before .before .before .before .before .before .before .before .before .before .before .size-place2 .result) (valueOf (c .before .before .before .before .before .before .before .before .before .before .before .before .before .before .pick .result)) (valueOf (c .before .before .before .before .before .before .before .before .before .before .before .sum-of .result))
     (c .before .before .before .before .before .before .before .before .before .before .before .before .before .before .before .before .before .before .before .size-place .ensures .0) (c .before .before .before .before .before .before .before .before .before .before .before .before .before .before .before .before .before .before .before .before .sum-place .ensures .0) (c .before .before .before .before .before .before .before .before .before .before .before .before .before .size-place2 .ensures .0) (c .before .before .before .before .before .before .before .before .before .before .before .before .before .before .pick .ensures) (c .before .before .before .before .before .before .before .before .before .before .before .sum-of .ensures) in
@@ -221,8 +214,8 @@ raised-requires-2 : tie.Need-raised-requires-2 Inv-loop μ-loop Inv-loop2 μ-loo
 raised-requires-2 c κs =
     let L = c .before .before .before .before .before .before .before .before .before .before .before .before .before .before .before .before .before .before .before .before .loop2 in
     let u = c .before .before .before .before .before .before .before .before .before .before .before .before .before .before .before .before .before .unpacked in
-    let here : L .i < c .before .before .before .before .before .before .before .before .before .before .before .before .before .before .before .before .before .before .before .before .before .before .before .before .before .before .before .before .before .before .before .before .before .before .args .count = c .before .before .before .before .before .before .before .before .before .before .before .before .before .before .before .before .before .before .before .if1 .taken in
-    let named = c .before .before .before .before .before .before .before .before .before .before .before .before .before .before .before .before .before .before .before .before .before .before .before .before .before .before .before .before .before .before .before .before .before .before .pre .0 .2 in
+    let here : L .i < c .before .before .before .before .before .before .before .before .before .before .before .before .before .before .before .before .before .before .before .before .before .before .before .before .before .before .before .before .before .before .before .before .before .args .count = c .before .before .before .before .before .before .before .before .before .before .before .before .before .before .before .before .before .before .before .if1 .taken in
+    let named = c .before .before .before .before .before .before .before .before .before .before .before .before .before .before .before .before .before .before .before .before .before .before .before .before .before .before .before .before .before .before .before .before .before .pre .0 .2 in
     let part : u .result .part < 3840 = omega (arith, u .ensures .2, named .parts (L .i) here) in (
       (L .inv .0 .long .causes-long, L .inv .1, omega (arith, L .inv .0 .bound)),
       (omega (arith, u .ensures .0, named .heads (L .i) here), part, rw (c .before .before .before .before .before .before .second .ensures) (second-low (u .result .part) (u .result .other) part)),
@@ -238,10 +231,10 @@ loop2-less-2 : tie.Need-loop2-less-2 Inv-loop μ-loop Inv-loop2 μ-loop2
 loop2-less-2 c =
     let L = c .before .before .before .before .before .before .before .before .before .before .before .before .before .before .before .before .before .before .before .before .before .before .before .before .before .loop2 in
     let u = c .before .before .before .before .before .before .before .before .before .before .before .before .before .before .before .before .before .before .before .before .before .before .unpacked in
-    let here : L .i < c .before .before .before .before .before .before .before .before .before .before .before .before .before .before .before .before .before .before .before .before .before .before .before .before .before .before .before .before .before .before .before .before .before .before .before .before .before .before .before .args .count = c .before .before .before .before .before .before .before .before .before .before .before .before .before .before .before .before .before .before .before .before .before .before .before .before .if1 .taken in
+    let here : L .i < c .before .before .before .before .before .before .before .before .before .before .before .before .before .before .before .before .before .before .before .before .before .before .before .before .before .before .before .before .before .before .before .before .before .before .before .before .before .before .args .count = c .before .before .before .before .before .before .before .before .before .before .before .before .before .before .before .before .before .before .before .before .before .before .before .before .if1 .taken in
     let R = c .before .before .before .before .raised2 in
     let x = u .result .head in
-    let low : x < 3840 = omega (arith, u .ensures .0, c .before .before .before .before .before .before .before .before .before .before .before .before .before .before .before .before .before .before .before .before .before .before .before .before .before .before .before .before .before .before .before .before .before .before .before .before .before .before .before .pre .0 .2 .heads (L .i) here) in
+    let low : x < 3840 = omega (arith, u .ensures .0, c .before .before .before .before .before .before .before .before .before .before .before .before .before .before .before .before .before .before .before .before .before .before .before .before .before .before .before .before .before .before .before .before .before .before .before .before .before .before .pre .0 .2 .heads (L .i) here) in
     let sum =
     asked-read (L .sizes) (L .after) (L .before) (L .through) (u .result .base) (u .result .part) (u .result .other) (c .before .before .before .before .before .before .before .before .before .before .before .before .before .before .before .before .before .before .before .before .size-place .result) (c .before .before .before .before .before .before .before .before .before .before .before .before .before .before .before .before .before .before .before .before .before .sum-place .result) (c .before .before .before .before .before .before .before .before .before .before .before .before .before .before .size-place2 .result) (valueOf (c .before .before .before .before .before .before .before .before .before .before .before .before .before .before .before .pick .result)) (valueOf (c .before .before .before .before .before .before .before .before .before .before .before .before .sum-of .result))
     (c .before .before .before .before .before .before .before .before .before .before .before .before .before .before .before .before .before .before .before .before .size-place .ensures .0) (c .before .before .before .before .before .before .before .before .before .before .before .before .before .before .before .before .before .before .before .before .before .sum-place .ensures .0) (c .before .before .before .before .before .before .before .before .before .before .before .before .before .before .size-place2 .ensures .0) (c .before .before .before .before .before .before .before .before .before .before .before .before .before .before .before .pick .ensures) (c .before .before .before .before .before .before .before .before .before .before .before .before .sum-of .ensures) in
@@ -254,10 +247,10 @@ loop2-again-2 : tie.Need-loop2-again-2 Inv-loop μ-loop Inv-loop2 μ-loop2
 loop2-again-2 c =
     let L = c .before .before .before .before .before .before .before .before .before .before .before .before .before .before .before .before .before .before .before .before .before .before .before .before .before .loop2 in
     let u = c .before .before .before .before .before .before .before .before .before .before .before .before .before .before .before .before .before .before .before .before .before .before .unpacked in
-    let here : L .i < c .before .before .before .before .before .before .before .before .before .before .before .before .before .before .before .before .before .before .before .before .before .before .before .before .before .before .before .before .before .before .before .before .before .before .before .before .before .before .before .args .count = c .before .before .before .before .before .before .before .before .before .before .before .before .before .before .before .before .before .before .before .before .before .before .before .before .if1 .taken in
+    let here : L .i < c .before .before .before .before .before .before .before .before .before .before .before .before .before .before .before .before .before .before .before .before .before .before .before .before .before .before .before .before .before .before .before .before .before .before .before .before .before .before .args .count = c .before .before .before .before .before .before .before .before .before .before .before .before .before .before .before .before .before .before .before .before .before .before .before .before .if1 .taken in
     let R = c .before .before .before .before .raised2 in
     let x = u .result .head in
-    let low : x < 3840 = omega (arith, u .ensures .0, c .before .before .before .before .before .before .before .before .before .before .before .before .before .before .before .before .before .before .before .before .before .before .before .before .before .before .before .before .before .before .before .before .before .before .before .before .before .before .before .pre .0 .2 .heads (L .i) here) in
+    let low : x < 3840 = omega (arith, u .ensures .0, c .before .before .before .before .before .before .before .before .before .before .before .before .before .before .before .before .before .before .before .before .before .before .before .before .before .before .before .before .before .before .before .before .before .before .before .before .before .before .pre .0 .2 .heads (L .i) here) in
     let sum =
     asked-read (L .sizes) (L .after) (L .before) (L .through) (u .result .base) (u .result .part) (u .result .other) (c .before .before .before .before .before .before .before .before .before .before .before .before .before .before .before .before .before .before .before .before .size-place .result) (c .before .before .before .before .before .before .before .before .before .before .before .before .before .before .before .before .before .before .before .before .before .sum-place .result) (c .before .before .before .before .before .before .before .before .before .before .before .before .before .before .size-place2 .result) (valueOf (c .before .before .before .before .before .before .before .before .before .before .before .before .before .before .before .pick .result)) (valueOf (c .before .before .before .before .before .before .before .before .before .before .before .before .sum-of .result))
     (c .before .before .before .before .before .before .before .before .before .before .before .before .before .before .before .before .before .before .before .before .size-place .ensures .0) (c .before .before .before .before .before .before .before .before .before .before .before .before .before .before .before .before .before .before .before .before .before .sum-place .ensures .0) (c .before .before .before .before .before .before .before .before .before .before .before .before .before .before .size-place2 .ensures .0) (c .before .before .before .before .before .before .before .before .before .before .before .before .before .before .before .pick .ensures) (c .before .before .before .before .before .before .before .before .before .before .before .before .sum-of .ensures) in
@@ -281,8 +274,8 @@ raised-requires-3 : tie.Need-raised-requires-3 Inv-loop μ-loop Inv-loop2 μ-loo
 raised-requires-3 c κs =
     let L = c .before .before .before .before .before .before .before .before .before .before .before .before .before .before .before .before .before .before .before .before .before .loop2 in
     let u = c .before .before .before .before .before .before .before .before .before .before .before .before .before .before .before .before .before .before .unpacked in
-    let here : L .i < c .before .before .before .before .before .before .before .before .before .before .before .before .before .before .before .before .before .before .before .before .before .before .before .before .before .before .before .before .before .before .before .before .before .before .before .args .count = c .before .before .before .before .before .before .before .before .before .before .before .before .before .before .before .before .before .before .before .before .if1 .taken in
-    let named = c .before .before .before .before .before .before .before .before .before .before .before .before .before .before .before .before .before .before .before .before .before .before .before .before .before .before .before .before .before .before .before .before .before .before .before .pre .0 .2 in
+    let here : L .i < c .before .before .before .before .before .before .before .before .before .before .before .before .before .before .before .before .before .before .before .before .before .before .before .before .before .before .before .before .before .before .before .before .before .before .args .count = c .before .before .before .before .before .before .before .before .before .before .before .before .before .before .before .before .before .before .before .before .if1 .taken in
+    let named = c .before .before .before .before .before .before .before .before .before .before .before .before .before .before .before .before .before .before .before .before .before .before .before .before .before .before .before .before .before .before .before .before .before .before .pre .0 .2 in
     let part : u .result .part < 3840 = omega (arith, u .ensures .2, named .parts (L .i) here) in (
       (L .inv .0 .long .causes-long, L .inv .1, omega (arith, L .inv .0 .bound)),
       (omega (arith, u .ensures .0, named .heads (L .i) here), part, rw (c .before .before .before .before .before .before .before .second .ensures) (second-low (u .result .part) (u .result .other) part)),
@@ -298,10 +291,10 @@ loop2-less-3 : tie.Need-loop2-less-3 Inv-loop μ-loop Inv-loop2 μ-loop2
 loop2-less-3 c =
     let L = c .before .before .before .before .before .before .before .before .before .before .before .before .before .before .before .before .before .before .before .before .before .before .before .before .before .before .loop2 in
     let u = c .before .before .before .before .before .before .before .before .before .before .before .before .before .before .before .before .before .before .before .before .before .before .before .unpacked in
-    let here : L .i < c .before .before .before .before .before .before .before .before .before .before .before .before .before .before .before .before .before .before .before .before .before .before .before .before .before .before .before .before .before .before .before .before .before .before .before .before .before .before .before .before .args .count = c .before .before .before .before .before .before .before .before .before .before .before .before .before .before .before .before .before .before .before .before .before .before .before .before .before .if1 .taken in
+    let here : L .i < c .before .before .before .before .before .before .before .before .before .before .before .before .before .before .before .before .before .before .before .before .before .before .before .before .before .before .before .before .before .before .before .before .before .before .before .before .before .before .before .args .count = c .before .before .before .before .before .before .before .before .before .before .before .before .before .before .before .before .before .before .before .before .before .before .before .before .before .if1 .taken in
     let R = c .before .before .before .before .raised3 in
     let x = u .result .head in
-    let low : x < 3840 = omega (arith, u .ensures .0, c .before .before .before .before .before .before .before .before .before .before .before .before .before .before .before .before .before .before .before .before .before .before .before .before .before .before .before .before .before .before .before .before .before .before .before .before .before .before .before .before .pre .0 .2 .heads (L .i) here) in
+    let low : x < 3840 = omega (arith, u .ensures .0, c .before .before .before .before .before .before .before .before .before .before .before .before .before .before .before .before .before .before .before .before .before .before .before .before .before .before .before .before .before .before .before .before .before .before .before .before .before .before .before .pre .0 .2 .heads (L .i) here) in
     let sum =
     asked-read (L .sizes) (L .after) (L .before) (L .through) (u .result .base) (u .result .part) (u .result .other) (c .before .before .before .before .before .before .before .before .before .before .before .before .before .before .before .before .before .before .before .before .before .size-place .result) (c .before .before .before .before .before .before .before .before .before .before .before .before .before .before .before .before .before .before .before .before .before .before .sum-place .result) (c .before .before .before .before .before .before .before .before .before .before .before .before .before .before .before .size-place2 .result) (valueOf (c .before .before .before .before .before .before .before .before .before .before .before .before .before .before .before .before .pick .result)) (valueOf (c .before .before .before .before .before .before .before .before .before .before .before .before .before .sum-of .result))
     (c .before .before .before .before .before .before .before .before .before .before .before .before .before .before .before .before .before .before .before .before .before .size-place .ensures .0) (c .before .before .before .before .before .before .before .before .before .before .before .before .before .before .before .before .before .before .before .before .before .before .sum-place .ensures .0) (c .before .before .before .before .before .before .before .before .before .before .before .before .before .before .before .size-place2 .ensures .0) (c .before .before .before .before .before .before .before .before .before .before .before .before .before .before .before .before .pick .ensures) (c .before .before .before .before .before .before .before .before .before .before .before .before .before .sum-of .ensures) in
@@ -314,10 +307,10 @@ loop2-again-3 : tie.Need-loop2-again-3 Inv-loop μ-loop Inv-loop2 μ-loop2
 loop2-again-3 c =
     let L = c .before .before .before .before .before .before .before .before .before .before .before .before .before .before .before .before .before .before .before .before .before .before .before .before .before .before .loop2 in
     let u = c .before .before .before .before .before .before .before .before .before .before .before .before .before .before .before .before .before .before .before .before .before .before .before .unpacked in
-    let here : L .i < c .before .before .before .before .before .before .before .before .before .before .before .before .before .before .before .before .before .before .before .before .before .before .before .before .before .before .before .before .before .before .before .before .before .before .before .before .before .before .before .before .args .count = c .before .before .before .before .before .before .before .before .before .before .before .before .before .before .before .before .before .before .before .before .before .before .before .before .before .if1 .taken in
+    let here : L .i < c .before .before .before .before .before .before .before .before .before .before .before .before .before .before .before .before .before .before .before .before .before .before .before .before .before .before .before .before .before .before .before .before .before .before .before .before .before .before .before .args .count = c .before .before .before .before .before .before .before .before .before .before .before .before .before .before .before .before .before .before .before .before .before .before .before .before .before .if1 .taken in
     let R = c .before .before .before .before .raised3 in
     let x = u .result .head in
-    let low : x < 3840 = omega (arith, u .ensures .0, c .before .before .before .before .before .before .before .before .before .before .before .before .before .before .before .before .before .before .before .before .before .before .before .before .before .before .before .before .before .before .before .before .before .before .before .before .before .before .before .before .pre .0 .2 .heads (L .i) here) in
+    let low : x < 3840 = omega (arith, u .ensures .0, c .before .before .before .before .before .before .before .before .before .before .before .before .before .before .before .before .before .before .before .before .before .before .before .before .before .before .before .before .before .before .before .before .before .before .before .before .before .before .before .pre .0 .2 .heads (L .i) here) in
     let sum =
     asked-read (L .sizes) (L .after) (L .before) (L .through) (u .result .base) (u .result .part) (u .result .other) (c .before .before .before .before .before .before .before .before .before .before .before .before .before .before .before .before .before .before .before .before .before .size-place .result) (c .before .before .before .before .before .before .before .before .before .before .before .before .before .before .before .before .before .before .before .before .before .before .sum-place .result) (c .before .before .before .before .before .before .before .before .before .before .before .before .before .before .before .size-place2 .result) (valueOf (c .before .before .before .before .before .before .before .before .before .before .before .before .before .before .before .before .pick .result)) (valueOf (c .before .before .before .before .before .before .before .before .before .before .before .before .before .sum-of .result))
     (c .before .before .before .before .before .before .before .before .before .before .before .before .before .before .before .before .before .before .before .before .before .size-place .ensures .0) (c .before .before .before .before .before .before .before .before .before .before .before .before .before .before .before .before .before .before .before .before .before .before .sum-place .ensures .0) (c .before .before .before .before .before .before .before .before .before .before .before .before .before .before .before .size-place2 .ensures .0) (c .before .before .before .before .before .before .before .before .before .before .before .before .before .before .before .before .pick .ensures) (c .before .before .before .before .before .before .before .before .before .before .before .before .before .sum-of .ensures) in
@@ -335,14 +328,14 @@ mul-raised-4 : tie.Need-mul-raised-4 Inv-loop μ-loop Inv-loop2 μ-loop2
 mul-raised-4 c = search needs
 
 array-copy-out-raised-4 : tie.Need-array-copy-out-raised-4 Inv-loop μ-loop Inv-loop2 μ-loop2
-array-copy-out-raised-4 c = omega (arith, c .before .before .before .before .before .before .before .before .before .before .before .before .before .before .before .before .before .unpacked .ensures .0, c .before .before .before .before .before .before .before .before .before .before .before .before .before .before .before .before .before .before .before .before .before .before .before .before .before .before .before .before .before .before .before .before .before .before .pre .0 .2 .heads (c .before .before .before .before .before .before .before .before .before .before .before .before .before .before .before .before .before .before .before .before .loop2 .i) (c .before .before .before .before .before .before .before .before .before .before .before .before .before .before .before .before .before .before .before .if1 .taken))
+array-copy-out-raised-4 c = omega (arith, c .before .before .before .before .before .before .before .before .before .before .before .before .before .before .before .before .before .unpacked .ensures .0, c .before .before .before .before .before .before .before .before .before .before .before .before .before .before .before .before .before .before .before .before .before .before .before .before .before .before .before .before .before .before .before .before .before .pre .0 .2 .heads (c .before .before .before .before .before .before .before .before .before .before .before .before .before .before .before .before .before .before .before .before .loop2 .i) (c .before .before .before .before .before .before .before .before .before .before .before .before .before .before .before .before .before .before .before .if1 .taken))
 
 raised-requires-4 : tie.Need-raised-requires-4 Inv-loop μ-loop Inv-loop2 μ-loop2
 raised-requires-4 c κs =
     let L = c .before .before .before .before .before .before .before .before .before .before .before .before .before .before .before .before .before .before .before .before .before .loop2 in
     let u = c .before .before .before .before .before .before .before .before .before .before .before .before .before .before .before .before .before .before .unpacked in
-    let here : L .i < c .before .before .before .before .before .before .before .before .before .before .before .before .before .before .before .before .before .before .before .before .before .before .before .before .before .before .before .before .before .before .before .before .before .before .before .args .count = c .before .before .before .before .before .before .before .before .before .before .before .before .before .before .before .before .before .before .before .before .if1 .taken in
-    let named = c .before .before .before .before .before .before .before .before .before .before .before .before .before .before .before .before .before .before .before .before .before .before .before .before .before .before .before .before .before .before .before .before .before .before .before .pre .0 .2 in
+    let here : L .i < c .before .before .before .before .before .before .before .before .before .before .before .before .before .before .before .before .before .before .before .before .before .before .before .before .before .before .before .before .before .before .before .before .before .before .args .count = c .before .before .before .before .before .before .before .before .before .before .before .before .before .before .before .before .before .before .before .before .if1 .taken in
+    let named = c .before .before .before .before .before .before .before .before .before .before .before .before .before .before .before .before .before .before .before .before .before .before .before .before .before .before .before .before .before .before .before .before .before .before .pre .0 .2 in
     let part : u .result .part < 3840 = omega (arith, u .ensures .2, named .parts (L .i) here) in (
       (L .inv .0 .long .causes-long, L .inv .1, omega (arith, L .inv .0 .bound)),
       (omega (arith, u .ensures .0, named .heads (L .i) here), part, rw (c .before .before .before .before .before .before .before .second .ensures) (second-low (u .result .part) (u .result .other) part)),
@@ -352,16 +345,16 @@ mul-through : tie.Need-mul-through Inv-loop μ-loop Inv-loop2 μ-loop2
 mul-through c = search needs
 
 array-set-from-through : tie.Need-array-set-from-through Inv-loop μ-loop Inv-loop2 μ-loop2
-array-set-from-through c = omega (arith, c .before .before .before .before .before .before .before .before .before .before .before .before .before .before .before .before .before .before .before .before .before .before .before .unpacked .ensures .0, c .before .before .before .before .before .before .before .before .before .before .before .before .before .before .before .before .before .before .before .before .before .before .before .before .before .before .before .before .before .before .before .before .before .before .before .before .before .before .before .before .pre .0 .2 .heads (c .before .before .before .before .before .before .before .before .before .before .before .before .before .before .before .before .before .before .before .before .before .before .before .before .before .before .loop2 .i) (c .before .before .before .before .before .before .before .before .before .before .before .before .before .before .before .before .before .before .before .before .before .before .before .before .before .if1 .taken))
+array-set-from-through c = omega (arith, c .before .before .before .before .before .before .before .before .before .before .before .before .before .before .before .before .before .before .before .before .before .before .before .unpacked .ensures .0, c .before .before .before .before .before .before .before .before .before .before .before .before .before .before .before .before .before .before .before .before .before .before .before .before .before .before .before .before .before .before .before .before .before .before .before .before .before .before .before .pre .0 .2 .heads (c .before .before .before .before .before .before .before .before .before .before .before .before .before .before .before .before .before .before .before .before .before .before .before .before .before .before .loop2 .i) (c .before .before .before .before .before .before .before .before .before .before .before .before .before .before .before .before .before .before .before .before .before .before .before .before .before .if1 .taken))
 
 loop2-less-4 : tie.Need-loop2-less-4 Inv-loop μ-loop Inv-loop2 μ-loop2
 loop2-less-4 c =
     let L = c .before .before .before .before .before .before .before .before .before .before .before .before .before .before .before .before .before .before .before .before .before .before .before .before .before .before .loop2 in
     let u = c .before .before .before .before .before .before .before .before .before .before .before .before .before .before .before .before .before .before .before .before .before .before .before .unpacked in
-    let here : L .i < c .before .before .before .before .before .before .before .before .before .before .before .before .before .before .before .before .before .before .before .before .before .before .before .before .before .before .before .before .before .before .before .before .before .before .before .before .before .before .before .before .args .count = c .before .before .before .before .before .before .before .before .before .before .before .before .before .before .before .before .before .before .before .before .before .before .before .before .before .if1 .taken in
+    let here : L .i < c .before .before .before .before .before .before .before .before .before .before .before .before .before .before .before .before .before .before .before .before .before .before .before .before .before .before .before .before .before .before .before .before .before .before .before .before .before .before .before .args .count = c .before .before .before .before .before .before .before .before .before .before .before .before .before .before .before .before .before .before .before .before .before .before .before .before .before .if1 .taken in
     let R = c .before .before .before .before .raised4 in
     let x = u .result .head in
-    let low : x < 3840 = omega (arith, u .ensures .0, c .before .before .before .before .before .before .before .before .before .before .before .before .before .before .before .before .before .before .before .before .before .before .before .before .before .before .before .before .before .before .before .before .before .before .before .before .before .before .before .before .pre .0 .2 .heads (L .i) here) in
+    let low : x < 3840 = omega (arith, u .ensures .0, c .before .before .before .before .before .before .before .before .before .before .before .before .before .before .before .before .before .before .before .before .before .before .before .before .before .before .before .before .before .before .before .before .before .before .before .before .before .before .before .pre .0 .2 .heads (L .i) here) in
     let sum =
     asked-read (L .sizes) (L .after) (L .before) (L .through) (u .result .base) (u .result .part) (u .result .other) (c .before .before .before .before .before .before .before .before .before .before .before .before .before .before .before .before .before .before .before .before .before .size-place .result) (c .before .before .before .before .before .before .before .before .before .before .before .before .before .before .before .before .before .before .before .before .before .before .sum-place .result) (c .before .before .before .before .before .before .before .before .before .before .before .before .before .before .before .size-place2 .result) (valueOf (c .before .before .before .before .before .before .before .before .before .before .before .before .before .before .before .before .pick .result)) (valueOf (c .before .before .before .before .before .before .before .before .before .before .before .before .before .sum-of .result))
     (c .before .before .before .before .before .before .before .before .before .before .before .before .before .before .before .before .before .before .before .before .before .size-place .ensures .0) (c .before .before .before .before .before .before .before .before .before .before .before .before .before .before .before .before .before .before .before .before .before .before .sum-place .ensures .0) (c .before .before .before .before .before .before .before .before .before .before .before .before .before .before .before .size-place2 .ensures .0) (c .before .before .before .before .before .before .before .before .before .before .before .before .before .before .before .before .pick .ensures) (c .before .before .before .before .before .before .before .before .before .before .before .before .before .sum-of .ensures) in
@@ -374,10 +367,10 @@ loop2-again-4 : tie.Need-loop2-again-4 Inv-loop μ-loop Inv-loop2 μ-loop2
 loop2-again-4 c =
     let L = c .before .before .before .before .before .before .before .before .before .before .before .before .before .before .before .before .before .before .before .before .before .before .before .before .before .before .loop2 in
     let u = c .before .before .before .before .before .before .before .before .before .before .before .before .before .before .before .before .before .before .before .before .before .before .before .unpacked in
-    let here : L .i < c .before .before .before .before .before .before .before .before .before .before .before .before .before .before .before .before .before .before .before .before .before .before .before .before .before .before .before .before .before .before .before .before .before .before .before .before .before .before .before .before .args .count = c .before .before .before .before .before .before .before .before .before .before .before .before .before .before .before .before .before .before .before .before .before .before .before .before .before .if1 .taken in
+    let here : L .i < c .before .before .before .before .before .before .before .before .before .before .before .before .before .before .before .before .before .before .before .before .before .before .before .before .before .before .before .before .before .before .before .before .before .before .before .before .before .before .before .args .count = c .before .before .before .before .before .before .before .before .before .before .before .before .before .before .before .before .before .before .before .before .before .before .before .before .before .if1 .taken in
     let R = c .before .before .before .before .raised4 in
     let x = u .result .head in
-    let low : x < 3840 = omega (arith, u .ensures .0, c .before .before .before .before .before .before .before .before .before .before .before .before .before .before .before .before .before .before .before .before .before .before .before .before .before .before .before .before .before .before .before .before .before .before .before .before .before .before .before .before .pre .0 .2 .heads (L .i) here) in
+    let low : x < 3840 = omega (arith, u .ensures .0, c .before .before .before .before .before .before .before .before .before .before .before .before .before .before .before .before .before .before .before .before .before .before .before .before .before .before .before .before .before .before .before .before .before .before .before .before .before .before .before .pre .0 .2 .heads (L .i) here) in
     let sum =
     asked-read (L .sizes) (L .after) (L .before) (L .through) (u .result .base) (u .result .part) (u .result .other) (c .before .before .before .before .before .before .before .before .before .before .before .before .before .before .before .before .before .before .before .before .before .size-place .result) (c .before .before .before .before .before .before .before .before .before .before .before .before .before .before .before .before .before .before .before .before .before .before .sum-place .result) (c .before .before .before .before .before .before .before .before .before .before .before .before .before .before .before .size-place2 .result) (valueOf (c .before .before .before .before .before .before .before .before .before .before .before .before .before .before .before .before .pick .result)) (valueOf (c .before .before .before .before .before .before .before .before .before .before .before .before .before .sum-of .result))
     (c .before .before .before .before .before .before .before .before .before .before .before .before .before .before .before .before .before .before .before .before .before .size-place .ensures .0) (c .before .before .before .before .before .before .before .before .before .before .before .before .before .before .before .before .before .before .before .before .before .before .sum-place .ensures .0) (c .before .before .before .before .before .before .before .before .before .before .before .before .before .before .before .size-place2 .ensures .0) (c .before .before .before .before .before .before .before .before .before .before .before .before .before .before .before .before .pick .ensures) (c .before .before .before .before .before .before .before .before .before .before .before .before .before .sum-of .ensures) in
@@ -391,23 +384,29 @@ loop2-again-4 c =
       L .inv .4,
     )
 
+add-write-sizes : tie.Need-add-write-sizes Inv-loop μ-loop Inv-loop2 μ-loop2
+add-write-sizes c = omega (arith, c .before .before .before .before .before .before .before .before .before .before .before .before .before .before .before .before .pre .1 .0)
+
+mul-write-sizes : tie.Need-mul-write-sizes Inv-loop μ-loop Inv-loop2 μ-loop2
+mul-write-sizes c = omega (arith, c .before .before .before .before .before .before .before .before .before .before .before .before .before .before .before .before .pre .1 .0)
+
 write-sizes-requires : tie.Need-write-sizes-requires Inv-loop μ-loop Inv-loop2 μ-loop2
-write-sizes-requires c κs = (omega (arith, c .before .before .before .before .before .before .before .before .before .before .before .before .before .before .before .before .before .pre .1 .0), omega (arith, c .before .before .before .before .before .before .before .before .before .before .before .before .before .before .before .before .before .pre .1 .0 .0, c .before .before .before .before .before .before .before .before .before .before .before .before .before .before .before .before .before .pre .1 .0 .1, c .before .before .before .before .before .before .before .before .before .before .before .before .before .before .before .before .before .pre .1 .0 .2 .long, ap length (c .before .before .before .loop2 .inv .4)))
+write-sizes-requires c κs = (omega (arith, c .before .before .before .before .before .before .before .before .before .before .before .before .before .before .before .before .before .pre .1 .0), omega (arith, c .before .before .before .before .before .before .before .before .before .before .before .before .before .before .before .before .before .pre .1 .0 .2 .fits, ap length (c .before .before .before .before .loop2 .inv .4)))
 
 write-sums-requires : tie.Need-write-sums-requires Inv-loop μ-loop Inv-loop2 μ-loop2
-write-sums-requires c κs = (c .before .before .before .before .before .before .before .before .before .before .before .before .before .before .before .before .before .before .before .before .before .pre .1 .0 .1, omega (arith, c .before .before .before .before .before .before .before .loop2 .inv .2, c .before .before .before .before .before .before .before .before .before .before .before .before .before .before .before .before .before .before .before .before .before .pre .1 .1 .1 .0))
+write-sums-requires c κs = (c .before .before .before .before .before .before .before .before .before .before .before .before .before .before .before .before .before .before .before .before .before .pre .1 .0 .1, omega (arith, c .before .before .before .before .before .before .before .before .loop2 .inv .2, c .before .before .before .before .before .before .before .before .before .before .before .before .before .before .before .before .before .before .before .before .before .pre .1 .1 .1 .0))
 
 write-sums-requires-2 : tie.Need-write-sums-requires-2 Inv-loop μ-loop Inv-loop2 μ-loop2
-write-sums-requires-2 c κs = (c .before .before .before .before .before .before .before .before .before .before .before .before .before .before .before .before .before .before .before .before .before .before .before .before .before .pre .1 .0 .1, omega (arith, c .before .before .before .before .before .before .before .before .before .before .before .loop2 .inv .3, c .before .before .before .before .before .before .before .before .before .before .before .before .before .before .before .before .before .before .before .before .before .before .before .before .before .pre .1 .1 .1 .1))
+write-sums-requires-2 c κs = (c .before .before .before .before .before .before .before .before .before .before .before .before .before .before .before .before .before .before .before .before .before .before .before .before .before .pre .1 .0 .1, omega (arith, c .before .before .before .before .before .before .before .before .before .before .before .before .loop2 .inv .3, c .before .before .before .before .before .before .before .before .before .before .before .before .before .before .before .before .before .before .before .before .before .before .before .before .before .pre .1 .1 .1 .1))
 
 same-length : tie.Need-same-length Inv-loop μ-loop Inv-loop2 μ-loop2
-same-length c = c .before .before .before .before .before .before .before .before .before .before .write-sizes .ensures .long ∙ ap length (c .before .before .before .before .before .before .before .before .before .before .before .before .before .before .loop2 .inv .4)
+same-length c = c .before .before .before .before .before .before .before .before .before .before .write-sizes .ensures .long ∙ ap length (c .before .before .before .before .before .before .before .before .before .before .before .before .before .before .before .loop2 .inv .4)
 
 same-length-2 : tie.Need-same-length-2 Inv-loop μ-loop Inv-loop2 μ-loop2
-same-length-2 c = c .before .before .before .before .before .before .before .before .before .before .before .before .before .before .loop2 .inv .0 .long .causes-long ∙ sym (ap length (c .before .before .before .before .before .before .before .before .before .before .before .before .before .before .before .before .before .before .before .before .before .before .before .before .before .before .before .before .pre .1 .1 .0 .0) ∙ length-replicate {A = ℕ} 3840 65535)
+same-length-2 c = c .before .before .before .before .before .before .before .before .before .before .before .before .before .before .before .loop2 .inv .0 .long .causes-long ∙ sym (ap length (c .before .before .before .before .before .before .before .before .before .before .before .before .before .before .before .before .before .before .before .before .before .before .before .before .before .before .before .before .pre .1 .1 .0 .0) ∙ length-replicate {A = ℕ} 3840 65535)
 
 same-length-3 : tie.Need-same-length-3 Inv-loop μ-loop Inv-loop2 μ-loop2
-same-length-3 c = c .before .before .before .before .before .before .before .before .before .before .before .before .before .before .loop2 .inv .1 ∙ sym (c .before .before .before .before .before .before .before .before .before .before .before .before .before .before .before .before .before .before .before .before .before .before .before .before .before .before .before .before .pre .1 .1 .0 .1)
+same-length-3 c = c .before .before .before .before .before .before .before .before .before .before .before .before .before .before .before .loop2 .inv .1 ∙ sym (c .before .before .before .before .before .before .before .before .before .before .before .before .before .before .before .before .before .before .before .before .before .before .before .before .before .before .before .before .pre .1 .1 .0 .1)
 
 same-length-4 : tie.Need-same-length-4 Inv-loop μ-loop Inv-loop2 μ-loop2
 same-length-4 c = search needs
@@ -417,36 +416,37 @@ same-length-5 c = search needs
 
 returns : tie.Need-returns Inv-loop μ-loop Inv-loop2 μ-loop2
 returns c =
-    let L = c .before .before .before .before .before .before .before .before .before .before .before .before .before .before .loop2 in
+    let L = c .before .before .before .before .before .before .before .before .before .before .before .before .before .before .before .loop2 in
     let a = c .before .before .before .before .before .before .before .before .before .before .before .before .before .before .before .before .before .before .before .before .before .before .before .before .before .before .before .before .args in
     let p = c .before .before .before .before .before .before .before .before .before .before .before .before .before .before .before .before .before .before .before .before .before .before .before .before .before .before .before .before .pre in
     let w = c .before .before .before .before .before .before .before .before .before .before .write-sizes .ensures in
     record {
-      long = w .long ∙ ap length (L .inv .4);
-      past = λ x h. w .tail x (omega arith) ∙ ap (λ (l : List ℕ). at l x) (L .inv .4) ∙ p .1 .0 .2 .past x h;
       settles = λ S m e. record {
         values = valuesOf (L .sizes) (L .after) (L .before) (L .through);
-        solved = round-solved (L .inv .0) (omega (arith, c .before .before .before .before .before .before .before .before .before .before .before .before .before .if1 .left)) (p .0 .1) (c .before .before .before .before .before .before .before .before .before .before .before .before .if5 .taken) S m e;
-        sizes-are = λ x h. sym (w .written x h);
+        solved = round-solved (L .inv .0) (omega (arith, c .before .before .before .before .before .before .before .before .before .before .before .before .before .before .if1 .left)) (p .0 .1) (c .before .before .before .before .before .before .before .before .before .before .before .before .before .if5 .taken) S m e;
+        sizes-are = rw (L .inv .4) at w;
         after-are = λ n h. sym (c .before .before .before .before .before .before .write-sums .ensures .written n h);
         before-are = λ n h. sym (c .before .before .write-sums2 .ensures .written n h);
       };
     }
 
+stamp-requires : tie.Need-stamp-requires Inv-loop μ-loop Inv-loop2 μ-loop2
+stamp-requires c κs = search needs
+
 slice-write-stamps : tie.Need-slice-write-stamps Inv-loop μ-loop Inv-loop2 μ-loop2
-slice-write-stamps c = omega (arith, c .before .before .loop2 .inv .1)
+slice-write-stamps c = omega (arith, c .before .before .before .loop2 .inv .1)
 
 add-turns : tie.Need-add-turns Inv-loop μ-loop Inv-loop2 μ-loop2
-add-turns c = omega (arith, c .before .before .loop2 .inv .0 .few, c .before .before .loop2 .inv .0 .later, c .before .before .loop2 .inv .0 .bound)
+add-turns c = omega (arith, c .before .before .before .loop2 .inv .0 .few, c .before .before .before .loop2 .inv .0 .later, c .before .before .before .loop2 .inv .0 .bound)
 
 loop2-less-5 : tie.Need-loop2-less-5 Inv-loop μ-loop Inv-loop2 μ-loop2
-loop2-less-5 c = again-less (c .before .before .loop2 .inv .0) (omega (arith, c .before .if1 .left)) (c .before .before .before .before .before .before .before .before .before .before .before .before .before .before .before .before .pre .0 .1) (c .if5 .left)
+loop2-less-5 c = again-less (c .before .before .before .loop2 .inv .0) (omega (arith, c .before .before .if1 .left)) (c .before .before .before .before .before .before .before .before .before .before .before .before .before .before .before .before .pre .0 .1) (c .before .if5 .left)
 
 loop2-again-5 : tie.Need-loop2-again-5 Inv-loop μ-loop Inv-loop2 μ-loop2
 loop2-again-5 c =
-    let L = c .before .before .loop2 in (
-      round-again (L .inv .0) (omega (arith, c .before .if1 .left)) (c .before .before .before .before .before .before .before .before .before .before .before .before .before .before .before .before .pre .0 .1) (c .if5 .left),
-      length-set (L .stamps) 3840 (L .clock) ∙ L .inv .1,
+    let L = c .before .before .before .loop2 in (
+      round-again (L .inv .0) (omega (arith, c .before .before .if1 .left)) (c .before .before .before .before .before .before .before .before .before .before .before .before .before .before .before .before .pre .0 .1) (c .before .if5 .left),
+      length-set (L .stamps) 3840 (c .stamp .result) ∙ L .inv .1,
       L .inv .2,
       L .inv .3,
       L .inv .4,
@@ -460,8 +460,6 @@ solve-spec =
     μ-loop
     Inv-loop2
     μ-loop2
-    add-entries
-    mul-entries
     zero-sizes-requires
     zero-sums-requires
     zero-sums-requires-2
@@ -524,6 +522,8 @@ solve-spec =
     array-set-from-through
     loop2-less-4
     loop2-again-4
+    add-write-sizes
+    mul-write-sizes
     write-sizes-requires
     write-sums-requires
     write-sums-requires-2
@@ -533,6 +533,7 @@ solve-spec =
     same-length-4
     same-length-5
     returns
+    stamp-requires
     slice-write-stamps
     add-turns
     loop2-less-5
