@@ -17,7 +17,7 @@ use Rattle.table.specs.WellFormed.{WellFormed}
 use Rattle.table.specs.declared.Counts.{Counts}
 use Rattle.table.proofs.Booleans.{not-both}
 use Rattle.table.proofs.Ready.{nodes-are}
-use Rattle.rules.specs.Choice.{at, unmerged}
+use Rattle.rules.specs.Choice.{at, unmerged, guarded}
 use Rattle.rules.specs.Rules.{entries, LeastSizes}
 use Rattle.rules.specs.System.{Derived}
 use Rattle.sizes.specs.Answer.{Written}
@@ -29,7 +29,7 @@ use Rattle.safety.specs.Safety.{Safe}
 use Rattle.safety.specs.Test.{Judged}
 use Rattle.safety.proofs.Laws.{safe-smaller, safe-alike}
 use Rattle.choice.specs.Preference.{IsSpawn, InOrder}
-use Rattle.choice.specs.Walk.{Unmerged, everySpawn, raisedTo, OthersZero, Sized, Adopted, taken, left, Tried, raised, kept, TriedAll, all-raised, all-kept, Walked}
+use Rattle.choice.specs.Walk.{Unmerged, everySpawn, MergedAll, all-merged, not-merged, raisedTo, OthersZero, Sized, Adopted, taken, left, Tried, raised, kept, TriedAll, all-raised, all-kept, Walked}
 
 -- the last of the first i + 1, or one before it
 last-or-before : (j i : ℕ) → j < i + 1 → (j ≡ i) ⊎ (j < i)
@@ -173,6 +173,9 @@ order-below t of r count order o i h = omega (arith, o .spawns i h .exists, node
 pub written-own : (count : ℕ) (l : List ℕ) → Written count (choiceOf l) l l
 written-own count l = record { long = refl; written = λ i h. refl; tail = λ i h. refl }
 
+pub written-as : {count : ℕ} {numbers : ℕ → ℕ} {old new : List ℕ} → Written count numbers old new → Written count (choiceOf new) old new
+written-as w = record { long = w .long; written = λ i h. refl; tail = w .tail }
+
 pub written-tried : (g : Program) (n k count : ℕ) (first old new : List ℕ) → n < count → Tried g n k old new → Written count (choiceOf old) first old → Written count (choiceOf new) first new
 written-tried g n k count first old new h (raised s) w = record {
   long = length-set old n k ∙ w .long;
@@ -290,10 +293,14 @@ module _ (g : Program) (k : ℕ) where
 pub unmerged-written : (g : Program) (old new : List ℕ) (count : ℕ) → count ≡ g .nodes → Written count (everySpawn g unmerged) old new → Unmerged g (choiceOf new)
 unmerged-written g old new count e w = record { spawns = spawns-written g unmerged old new count e w; others = others-written g unmerged old new count e w }
 
--- what was not adopted changed nothing
-pub adopted-not : {g : Program} {set′ reached : ℕ → Bool} {c : ℕ → ℕ} {old new : List ℕ} {safe : Bool} → Adopted g set′ reached c old new safe → safe ≡ false → new ≡ old
-adopted-not {safe = safe} (taken y x z) n = not-both safe y n
-adopted-not (left y s l x e) n = e
+-- a trial from zeros, by whether it was adopted
+pub merged-tried : {g : Program} {set′ reached : ℕ → Bool} {nodes : ℕ} {old new from to : List ℕ} {done : Bool} → Written nodes (everySpawn g guarded) old new → Adopted g set′ reached (choiceOf new) from to done → MergedAll g set′ reached nodes old new from to done
+merged-tried w (taken y x z) = all-merged y w x z
+merged-tried w (left y s l x e) = not-merged y (written-as w) e
+
+pub not-merged-left : {g : Program} {set′ reached : ℕ → Bool} {nodes : ℕ} {old new from to : List ℕ} {done : Bool} → MergedAll g set′ reached nodes old new from to done → done ≡ false → Written nodes (choiceOf new) old new × (to ≡ from)
+not-merged-left {done = done} (all-merged y w x z) n = not-both done y n
+not-merged-left (not-merged y w e) n = (w, e)
 
 pub nothing-merged : (g : Program) (c : ℕ → ℕ) → Unmerged g c → (n : ℕ) → n < g .nodes → c n ≤ 1
 nothing-merged g c u n h = go (ℕ-discrete (g .sort n) spawn)

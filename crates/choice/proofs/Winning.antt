@@ -15,7 +15,7 @@ use Rattle.table.specs.declared.Counts.{Counts}
 use Rattle.table.proofs.Booleans.{not-both}
 use Rattle.table.proofs.Laws.{well-formed}
 use Rattle.table.proofs.Ready.{nodes-are}
-use Rattle.rules.specs.Choice.{at, unmerged, guarded, unguarded, ChoiceFor}
+use Rattle.rules.specs.Choice.{unmerged, guarded, unguarded, ChoiceFor}
 use Rattle.rules.specs.Rules.{LeastSizes}
 use Rattle.sizes.specs.Answer.{Written}
 use Rattle.sizes.specs.Call.{choiceOf}
@@ -23,9 +23,9 @@ use Rattle.safety.specs.Safety.{Safe}
 use Rattle.safety.proofs.Laws.{safe-alike, unmerged-safe}
 use Rattle.choice.specs.Preference.{IsSpawn, comesFirst, ComesFirst, InOrder}
 use Rattle.choice.specs.Beats.{Alike, Wins, Beats, Best, Returned}
-use Rattle.choice.specs.Walk.{Unmerged, everySpawn, OthersZero, Sized, Adopted, taken, left, Walked, Chosen}
+use Rattle.choice.specs.Walk.{Unmerged, everySpawn, raisedTo, Sized, Walked, MergedAll, all-merged, not-merged, Merged, Chosen}
 use Rattle.choice.proofs.Firsts.{first-irreflexive, first-transitive, first-by}
-use Rattle.choice.proofs.Walking.{written-own, written-twice, spawns-written, others-written, unmerged-written, nothing-merged}
+use Rattle.choice.proofs.Walking.{written-as, written-twice, every-spawn, every-other, unmerged-written, nothing-merged, walked-all}
 
 -- ---- of two choices one wins, or they are alike
 
@@ -226,14 +226,6 @@ module _ (g : Program) (w : WellFormed g) (count : ℕ) (order : ℕ → ℕ) (o
   pub walks-return : Returned g final
   walks-return = return-unbeaten g w count order o final final-for (two .safe) beaten-by-none
 
--- every spawn unguarded: nothing wins against it
-widest-returned : (g : Program) → WellFormed g → (count : ℕ) (order : ℕ → ℕ) → InOrder g count order → (c : ℕ → ℕ) → ((n : ℕ) → IsSpawn g n → c n ≡ unguarded) → OthersZero g c → Safe g c → Returned g c
-widest-returned g w count order o c all others safe = return-unbeaten g w count order o c (record { others = others; spawns = λ n h e. let i = all n (record { exists = h; spawns = e }) in (omega (arith, i), omega (arith, i)) }) safe unbeaten
-  where
-    unbeaten : (d : ℕ → ℕ) → ChoiceFor g d → Safe g d → Beats g d c → ⊥
-    unbeaten d f s (inl v) = omega (arith, v .doesn't, all (v .at) (v .spawn-is))
-    unbeaten d f s (inr (a, v)) = omega (arith, v .doesn't, all (v .at) (v .spawn-is))
-
 -- ---- from the bytes
 
 pub unmerged-is : (t : List ℕ) (of : Counts) → Ready t of → {old new : List ℕ} → Written (of .nodes) (everySpawn (programOf t) unmerged) old new → Unmerged (programOf t) (choiceOf new)
@@ -242,26 +234,34 @@ unmerged-is t of r {old} {new} w = unmerged-written (programOf t) old new (of .n
 pub unmerged-ready : (t : List ℕ) (of : Counts) → Ready t of → {old new : List ℕ} → Written (of .nodes) (everySpawn (programOf t) unmerged) old new → (s : ℕ → ℕ) → LeastSizes (programOf t) (choiceOf new) s → Safe (programOf t) (choiceOf new)
 unmerged-ready t of r {old} {new} w s l = unmerged-safe (programOf t) (choiceOf new) (nothing-merged (programOf t) (choiceOf new) (unmerged-is t of r w)) (well-formed t (r .accepted-is)) s l
 
-pub chosen : (t : List ℕ) (of : Counts) → Ready t of → (count : ℕ) (order : ℕ → ℕ) → InOrder (programOf t) count order → {old start middle final : List ℕ} → Written (of .nodes) (everySpawn (programOf t) unmerged) old start → Written (of .nodes) (choiceOf middle) start middle → Written (of .nodes) (choiceOf final) middle final → Walked (programOf t) guarded count order (choiceOf start) (choiceOf middle) → Walked (programOf t) unguarded count order (choiceOf middle) (choiceOf final) → (s : ℕ → ℕ) → LeastSizes (programOf t) (choiceOf final) s → Chosen (programOf t) old final s
-chosen t of r count order o {old} {start} {middle} {final} a b c one two s l = record {
-  returned = walks-return (programOf t) (well-formed t (r .accepted-is)) count order o (choiceOf start) (choiceOf middle) (choiceOf final) (unmerged-is t of r a) one two;
-  written = rw (nodes-are t of r) at (written-twice (of .nodes) (choiceOf middle) old middle final (written-twice (of .nodes) (everySpawn (programOf t) unmerged) old start middle a b) c);
-  sizes-are = l;
-}
+-- all merged at once is what the first walk comes to; and so is one by one, from unmerged everywhere
+module _ (t : List ℕ) (of : Counts) (r : Ready t of) (count : ℕ) (order : ℕ → ℕ) (o : InOrder (programOf t) count order) where
+  abbrev g : Program
+  g = programOf t
 
--- the widest choice was adopted
-pub chosen-widest : (t : List ℕ) (of : Counts) → Ready t of → (count : ℕ) (order : ℕ → ℕ) → InOrder (programOf t) count order → {old new : List ℕ} → Written (of .nodes) (everySpawn (programOf t) unguarded) old new → {set reached : ℕ → Bool} {from to : List ℕ} {done : Bool} → Adopted (programOf t) set reached (choiceOf new) from to done → done ≡ true → Chosen (programOf t) old new (at to)
-chosen-widest t of r count order o w {done = done} (left y s l x e) q = not-both done q y
-chosen-widest t of r count order o {old} {new} w (taken y x z) q = record {
-  returned = widest-returned (programOf t) (well-formed t (r .accepted-is)) count order o (choiceOf new) (spawns-written (programOf t) unguarded old new (of .nodes) (nodes-are t of r) w) (others-written (programOf t) unguarded old new (of .nodes) (nodes-are t of r) w) x;
-  written = rw (nodes-are t of r) at (written-twice (of .nodes) (everySpawn (programOf t) unguarded) old new new w (written-own (of .nodes) new));
-  sizes-are = z .sizes-are;
-}
+  pub merged-at-once : {set reached : ℕ → Bool} {old new from to : List ℕ} {done : Bool} → MergedAll g set reached (of .nodes) old new from to done → done ≡ true → Merged g count order (choiceOf new) × Written (of .nodes) (choiceOf new) old new × Sized g set reached (choiceOf new) to
+  merged-at-once {done = done} (not-merged n w e) q = not-both done q n
+  merged-at-once {new = new} (all-merged y w x z) q = (
+    record {
+      start = everySpawn g unmerged;
+      unmerged-is = record { spawns = λ n i. every-spawn g unmerged n (i .spawns); others = λ n h e. every-other g unmerged n e };
+      walked = walked-all g guarded count order (everySpawn g unmerged) (choiceOf new) o (omega arith) (λ n h e. every-other g unmerged n e) (λ n h. w .written n (omega (arith, nodes-are t of r)) ∙ sym (raise n (ℕ-discrete (g .sort n) spawn))) x;
+    },
+    written-as w,
+    z,
+  )
+    where
+      raise : (n : ℕ) → Dec (g .sort n ≡ spawn) → raisedTo guarded (everySpawn g unmerged n) ≡ everySpawn g guarded n
+      raise n (yes e) = ap (raisedTo guarded) (every-spawn g unmerged n e) ∙ sym (every-spawn g guarded n e)
+      raise n (no e) = ap (raisedTo guarded) (every-other g unmerged n e) ∙ sym (every-other g guarded n e)
 
--- what was written before it does not matter
-pub chosen-after : (t : List ℕ) (of : Counts) → Ready t of → (k : ℕ) {old mid new : List ℕ} {s : ℕ → ℕ} → Written (of .nodes) (everySpawn (programOf t) k) old mid → Chosen (programOf t) mid new s → Chosen (programOf t) old new s
-chosen-after t of r k {old} {mid} {new} w c = record {
-  returned = c .returned;
-  written = written-twice (programOf t .nodes) (everySpawn (programOf t) k) old mid new (rw (nodes-are t of r) at w) (c .written);
-  sizes-are = c .sizes-are;
-}
+  pub merged-one-by-one : {old start : List ℕ} {to : ℕ → ℕ} → Written (of .nodes) (everySpawn g unmerged) old start → Walked g guarded count order (choiceOf start) to → Merged g count order to
+  merged-one-by-one {old} {start} w x = record { start = choiceOf start; unmerged-is = unmerged-written g old start (of .nodes) (nodes-are t of r) w; walked = x }
+
+  -- what the two walks come to
+  pub chosen : {old middle final : List ℕ} → Merged g count order (choiceOf middle) → Written (of .nodes) (choiceOf middle) old middle → Written (of .nodes) (choiceOf final) middle final → Walked g unguarded count order (choiceOf middle) (choiceOf final) → (s : ℕ → ℕ) → LeastSizes g (choiceOf final) s → Chosen g old final s
+  chosen {old} {middle} {final} m b c two s l = record {
+    returned = walks-return g (well-formed t (r .accepted-is)) count order o (m .start) (choiceOf middle) (choiceOf final) (m .unmerged-is) (m .walked) two;
+    written = rw (nodes-are t of r) at (written-twice (of .nodes) (choiceOf middle) old middle final b c);
+    sizes-are = l;
+  }

@@ -8,7 +8,7 @@ use lib.Dec.{eqb}
 use lib.ListN.{length, set}
 use Rattle.table.specs.Record.{spawn}
 use Rattle.table.specs.Program.{Program}
-use Rattle.rules.specs.Choice.{at, unmerged}
+use Rattle.rules.specs.Choice.{at, unmerged, guarded}
 use Rattle.rules.specs.Rules.{LeastSizes}
 use Rattle.rules.specs.System.{Derived}
 use Rattle.sizes.specs.Answer.{Written}
@@ -61,6 +61,17 @@ pub record Walked (g : Program) (k i : ℕ) (order from to : ℕ → ℕ) : Type
   pub safe : Safe g to
   pub moved : (n : ℕ) → n < g .nodes → (to n ≡ from n) ⊎ ((suc (from n) ≡ k) × (to n ≡ k) × ((j : ℕ) × (j < i) × (order j ≡ n)))
   pub blocked : (j : ℕ) → j < i → suc (from (order j)) ≡ k → to (order j) < k → (d : ℕ → ℕ) → Safe g d → ((n : ℕ) → n < g .nodes → from n ≤ d n) → ((l : ℕ) → l < j → k ≤ to (order l) → k ≤ d (order l)) → k ≤ d (order j) → ⊥
+
+-- a trial of all spawns merged at once, from zeros: they are, and the choice is safe; or the sizes are as they were
+pub data MergedAll (g : Program) (set reached : ℕ → Bool) (nodes : ℕ) (old new from to : List ℕ) : Bool → Type 0 where
+  all-merged : {done : Bool} → done ≡ true → Written nodes (everySpawn g guarded) old new → Safe g (choiceOf new) → Sized g set reached (choiceOf new) to → MergedAll g set reached nodes old new from to done
+  not-merged : {done : Bool} → done ≡ false → Written nodes (choiceOf new) old new → to ≡ from → MergedAll g set reached nodes old new from to done
+
+-- what the first walk comes to
+pub record Merged (g : Program) (count : ℕ) (order to : ℕ → ℕ) : Type 0 where
+  pub start : ℕ → ℕ
+  pub unmerged-is : Unmerged g start
+  pub walked : Walked g guarded count order start to
 
 -- the choice to return stands in the first bytes, and s are its sizes
 pub record Chosen (g : Program) (old new : List ℕ) (s : ℕ → ℕ) : Type 0 where

@@ -15,14 +15,14 @@ ghost use Rattle.table.specs.Answer.{Ready};
 ghost use Rattle.table.specs.Program.{programOf};
 ghost use Rattle.sync.specs.Words.{member};
 ghost use Rattle.sync.specs.Answer.{Sets};
-ghost use Rattle.rules.specs.Choice.{at, unguarded};
+ghost use Rattle.rules.specs.Choice.{at};
 ghost use Rattle.rules.specs.System.{Derived};
 ghost use Rattle.rules.specs.Listed.{Widest};
 ghost use Rattle.sizes.specs.Answer.{Written};
 ghost use Rattle.sizes.specs.Call.{choiceOf};
 ghost use Rattle.safety.specs.Safety.{Safe};
 ghost use Rattle.choice.specs.Preference.{InOrder};
-ghost use Rattle.choice.specs.Walk.{everySpawn, raisedTo, OthersZero, Sized, Adopted, Tried, TriedAll, Walked, Chosen};
+ghost use Rattle.choice.specs.Walk.{everySpawn, raisedTo, OthersZero, Sized, Adopted, Tried, TriedAll, Walked, MergedAll, Merged, Chosen};
 
 // The verdict of node n where every spawn has the verdict k: 0 for any other node.
 fn verdict(t: &[u8], of: Counts, k: u8, n: usize) -> u8
@@ -299,11 +299,12 @@ fn sizes_of(
     );
 }
 
-// A trial of the widest choice, every spawn unguarded: nothing beats it.
-fn at_widest(
+// A trial from zeros: every spawn merged at once, if that is safe. Of fewer than two spawns each has its own trial.
+fn merge_all(
     t: &[u8],
     known: Known,
     all: &[u64],
+    count: usize,
     verdicts: &mut [u8],
     sizes: &mut [u32],
     trials: &mut u32,
@@ -311,10 +312,12 @@ fn at_widest(
 ) -> bool
     requires { ⌜ Ready (now t) (known .of) × Sets (programOf (now t)) (known .synchronising) (known .reached) × Widest (now t) known (now all) ⌝ }
     requires { ⌜ (known .of .nodes ≤ length (now verdicts)) × (now sizes ≡ replicate 2304 0) ⌝ }
-    ensures { λ _. ⌜ Written (known .of .nodes) (everySpawn (programOf (now (t .entry))) unguarded) (now (verdicts .entry)) (now (verdicts .exit)) ⌝ }
-    ensures { λ r. ⌜ Adopted (programOf (now (t .entry))) (member (known .synchronising)) (member (known .reached)) (choiceOf (now (verdicts .exit))) (now (sizes .entry)) (now (sizes .exit)) r ⌝ }
+    ensures { λ r. ⌜ MergedAll (programOf (now (t .entry))) (member (known .synchronising)) (member (known .reached)) (known .of .nodes) (now (verdicts .entry)) (now (verdicts .exit)) (now (sizes .entry)) (now (sizes .exit)) r ⌝ }
 {
-    give_all(t, known.of, 3, verdicts);
+    if count < 2 {
+        return false;
+    }
+    give_all(t, known.of, 2, verdicts);
     let mut spent: u32 = 0;
     let done = adopt(t, known, all, verdicts, sizes, &mut spent);
     *trials = wrapping_add_u32(*trials, 1);
@@ -322,8 +325,8 @@ fn at_widest(
     done
 }
 
-// The two walks, from unmerged everywhere.
-fn walks(
+// The first walk, from unmerged everywhere. The sizes of that choice are found only where not all spawns can be merged at once.
+fn merge(
     t: &[u8],
     known: Known,
     all: &[u64],
@@ -337,13 +340,18 @@ fn walks(
     requires { ⌜ Ready (now t) (known .of) × Sets (programOf (now t)) (known .synchronising) (known .reached) × Widest (now t) known (now all) ⌝ }
     requires { ⌜ (known .of .nodes ≤ length (now verdicts)) × (now sizes ≡ replicate 2304 0) ⌝ }
     requires { ⌜ (count ≤ length (now order)) × InOrder (programOf (now t)) count (at (now order)) ⌝ }
-    ensures { λ _. ⌜ Chosen (programOf (now (t .entry))) (now (verdicts .entry)) (now (verdicts .exit)) (at (now (sizes .exit))) ⌝ }
+    ensures { λ _. ⌜ Merged (programOf (now (t .entry))) count (at (now (order .entry))) (choiceOf (now (verdicts .exit))) ⌝ }
+    ensures { λ _. ⌜ Written (known .of .nodes) (choiceOf (now (verdicts .exit))) (now (verdicts .entry)) (now (verdicts .exit)) ⌝ }
+    ensures { λ _. ⌜ Sized (programOf (now (t .entry))) (member (known .synchronising)) (member (known .reached)) (choiceOf (now (verdicts .exit))) (now (sizes .exit)) ⌝ }
 {
+    if merge_all(t, known, all, count, verdicts, sizes, trials, passes) {
+        return;
+    }
     give_all(t, known.of, 1, verdicts);
     let mut spent: u32 = 0;
     sizes_of(t, known, all, verdicts, sizes, &mut spent);
     *passes = wrapping_add_u32(*passes, spent);
-    walk(
+    one_by_one(
         t,
         known,
         all,
@@ -355,21 +363,9 @@ fn walks(
         trials,
         passes,
     );
-    walk(
-        t,
-        known,
-        all,
-        order,
-        count,
-        3,
-        verdicts,
-        sizes,
-        trials,
-        passes,
-    );
 }
 
-// The search, with the rules of the widest choice at hand.
+// The two walks, with the rules of the widest choice at hand.
 fn search(
     t: &[u8],
     known: Known,
@@ -385,15 +381,24 @@ fn search(
 {
     let mut order = [0usize; 512];
     let count = in_order(t, known.of, &mut order);
-    if at_widest(t, known, all, verdicts, sizes, trials, passes) {
-        return;
-    }
-    walks(
+    merge(
         t,
         known,
         all,
         &order,
         count,
+        verdicts,
+        sizes,
+        trials,
+        passes,
+    );
+    walk(
+        t,
+        known,
+        all,
+        &order,
+        count,
+        3,
         verdicts,
         sizes,
         trials,
