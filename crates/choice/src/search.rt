@@ -331,7 +331,7 @@ fn merge(
     known: Known,
     all: &[u64],
     order: &[usize],
-    count: usize,
+    spawns: usize,
     verdicts: &mut [u8],
     sizes: &mut [u32],
     trials: &mut u32,
@@ -339,12 +339,12 @@ fn merge(
 )
     requires { ⌜ Ready (now t) (known .of) × Sets (programOf (now t)) (known .synchronising) (known .reached) × Widest (now t) known (now all) ⌝ }
     requires { ⌜ (known .of .nodes ≤ length (now verdicts)) × (now sizes ≡ replicate 2304 0) ⌝ }
-    requires { ⌜ (count ≤ length (now order)) × InOrder (programOf (now t)) count (at (now order)) ⌝ }
-    ensures { λ _. ⌜ Merged (programOf (now (t .entry))) count (at (now (order .entry))) (choiceOf (now (verdicts .exit))) ⌝ }
+    requires { ⌜ (spawns ≤ length (now order)) × InOrder (programOf (now t)) spawns (at (now order)) ⌝ }
+    ensures { λ _. ⌜ Merged (programOf (now (t .entry))) spawns (at (now (order .entry))) (choiceOf (now (verdicts .exit))) ⌝ }
     ensures { λ _. ⌜ Written (known .of .nodes) (choiceOf (now (verdicts .exit))) (now (verdicts .entry)) (now (verdicts .exit)) ⌝ }
     ensures { λ _. ⌜ Sized (programOf (now (t .entry))) (member (known .synchronising)) (member (known .reached)) (choiceOf (now (verdicts .exit))) (now (sizes .exit)) ⌝ }
 {
-    if merge_all(t, known, all, count, verdicts, sizes, trials, passes) {
+    if merge_all(t, known, all, spawns, verdicts, sizes, trials, passes) {
         return;
     }
     give_all(t, known.of, 1, verdicts);
@@ -356,7 +356,7 @@ fn merge(
         known,
         all,
         order,
-        count,
+        spawns,
         2,
         verdicts,
         sizes,

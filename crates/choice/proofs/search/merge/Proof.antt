@@ -22,7 +22,7 @@ returns : tie.Need-returns
 returns c =
     let a = c .before .before .before .before .before .before .before .before .before .before .before .before .before .before .before .args in
     let p = c .before .before .before .before .before .before .before .before .before .before .before .before .before .before .before .pre in
-    let x = merged-at-once (a .t .now) (a .known .of) (p .0 .0) (a .count) (at (a .order .now)) (p .1 .1 .1) (c .before .before .before .before .before .merge-all .ensures) (c .if1 .taken) in
+    let x = merged-at-once (a .t .now) (a .known .of) (p .0 .0) (a .spawns) (at (a .order .now)) (p .1 .1 .1) (c .before .before .before .before .before .merge-all .ensures) (c .if1 .taken) in
     (x .0, (x .1, x .2))
 
 give-all-requires : tie.Need-give-all-requires
@@ -59,7 +59,7 @@ returns-2 c =
     let m = not-merged-left (c .before .before .before .before .before .before .before .before .before .before .before .before .before .before .before .before .before .before .before .before .before .before .before .before .before .before .merge-all .ensures) (c .before .before .before .before .before .before .before .before .before .before .before .before .before .before .before .before .before .before .before .before .before .if1 .left) in
     let u = c .before .before .before .before .before .before .before .before .before .before .before .before .before .before .before .before .before .before .before .give-all .ensures in
     let w = c .before .before .before .before .one-by-one .ensures in (
-      merged-one-by-one (a .t .now) (a .known .of) (p .0 .0) (a .count) (at (a .order .now)) (p .1 .1 .1) u (w .0),
+      merged-one-by-one (a .t .now) (a .known .of) (p .0 .0) (a .spawns) (at (a .order .now)) (p .1 .1 .1) u (w .0),
       (written-twice (a .known .of .nodes) _ _ _ _ (written-twice (a .known .of .nodes) _ _ _ _ (m .0) (written-as u)) (w .1 .0), w .1 .1),
     )
 
