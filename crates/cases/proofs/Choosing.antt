@@ -14,14 +14,14 @@ use Rattle.table.specs.Program.{Program}
 use Rattle.table.specs.WellFormed.{WellFormed}
 use Rattle.table.proofs.Below.{any-which}
 use Rattle.table.proofs.Booleans.{either-way, and-true-left, and-true-right}
-use Rattle.rules.specs.Choice.{unmerged, guarded, unguarded, ChoiceFor, at}
+use Rattle.size.specs.Numbers.{at}
+use Rattle.rules.specs.Choice.{unmerged, guarded, unguarded, ChoiceFor, AtMost}
 use Rattle.rules.specs.Rules.{LeastSizes}
-use Rattle.sizes.proofs.Laws.{AtMost}
 use Rattle.safety.specs.Safety.{Safe}
 use Rattle.safety.proofs.Laws.{safe-smaller}
-use Rattle.choice.specs.Preference.{InOrder}
+use Rattle.preference.specs.Preference.{InOrder}
 use Rattle.choice.specs.Beats.{Returned}
-use Rattle.choice.specs.Walk.{Unmerged, Walked}
+use Rattle.search.specs.Walk.{Unmerged, Walked}
 use Rattle.choice.proofs.Winning.{walks-return}
 use Rattle.cases.proofs.Rows.{Rows, programFrom}
 use Rattle.cases.proofs.Every.{every, every-each, cond-true, cond-false}

@@ -14,7 +14,8 @@ use Rattle.table.specs.WellFormed.{WellFormed}
 use Rattle.table.proofs.Booleans.{not-both, and-true-left, and-true-right}
 use Rattle.table.proofs.Laws.{well-formed}
 use Rattle.sync.specs.Synchronising.{Synchronising}
-use Rattle.rules.specs.Choice.{ChoiceFor, at}
+use Rattle.size.specs.Numbers.{at}
+use Rattle.rules.specs.Choice.{ChoiceFor}
 use Rattle.rules.specs.Rules.{ofFunction, LeastSizes}
 use Rattle.safety.specs.Safety.{Safe}
 use Rattle.choice.specs.Beats.{Returned}

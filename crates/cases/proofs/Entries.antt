@@ -8,13 +8,33 @@ use lib.Dec.{eqb}
 use lib.ListN.{set}
 use borrow.Author.Tests.{eqb-true}
 use Rattle.table.proofs.Booleans.{either-way, not-both, and-true-left, and-true-right, or-true-right}
-use Rattle.rules.specs.Choice.{at}
+use Rattle.size.specs.Numbers.{at}
 use Rattle.rules.specs.System.{Entry, size, along}
-use Rattle.rules.specs.Causes.{offset}
-use Rattle.sizes.specs.Values.{Values, sums, valueAt, putSizes, putSums}
+use Rattle.rules.specs.Entries.{offset}
+use Rattle.solver.specs.Values.{Values}
+use Rattle.solver.proofs.Rises.{In, here, there}
 use Rattle.rules.specs.declared.sums.Sum.{Sum}
 use Rattle.rules.specs.declared.sums.Sum.the-variants.{After, Before, Through}
-use Rattle.rules.proofs.Rises.{In, here, there}
+
+-- ---- values of entries
+
+abbrev sums : Sum → Values → List ℕ
+sums After v = v .after
+sums Before v = v .before
+sums Through v = v .through
+
+abbrev pub valueAt : Values → Entry → ℕ
+valueAt v (size x) = at (v .sizes) x
+valueAt v (along s n) = at (sums s v) n
+
+-- v with another array
+abbrev putSums : Sum → List ℕ → Values → Values
+putSums After l v = record { sizes = v .sizes; after = l; before = v .before; through = v .through }
+putSums Before l v = record { sizes = v .sizes; after = v .after; before = l; through = v .through }
+putSums Through l v = record { sizes = v .sizes; after = v .after; before = v .before; through = l }
+
+abbrev putSizes : List ℕ → Values → Values
+putSizes l v = record { sizes = l; after = v .after; before = v .before; through = v .through }
 
 -- what is given of each sum is there for any
 abbrev pub each : (P : Sum → Type 0) → P After → P Before → P Through → (s : Sum) → P s

@@ -9,8 +9,9 @@ use borrow.Author.Tests.{lt-ltb, not-true}
 use Rattle.table.specs.WellFormed.{WellFormed}
 use Rattle.table.proofs.Booleans.{not-both, and-true-left, and-true-right}
 use Rattle.sizes.specs.Answer.{SizesOf}
-use Rattle.rules.specs.Choice.{guarded, unguarded, at}
-use Rattle.sizes.specs.Values.{Values}
+use Rattle.size.specs.Numbers.{at}
+use Rattle.rules.specs.Choice.{guarded, unguarded}
+use Rattle.solver.specs.Values.{Values}
 use Rattle.rules.specs.Rules.{LeastSizes}
 use Rattle.safety.specs.Safety.{Safe}
 use Rattle.choice.specs.Beats.{Returned}

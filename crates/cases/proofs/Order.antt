@@ -14,9 +14,9 @@ use Rattle.table.specs.Program.{Program}
 use Rattle.table.specs.WellFormed.{WellFormed}
 use Rattle.table.proofs.Below.{any-which}
 use Rattle.table.proofs.Booleans.{either-way, and-true-left, and-true-right}
-use Rattle.rules.specs.Choice.{at}
-use Rattle.choice.specs.Depth.{Away, DepthsOf}
-use Rattle.choice.specs.Preference.{IsSpawn, comesFirst, ComesFirst, InOrder}
+use Rattle.size.specs.Numbers.{at}
+use Rattle.preference.specs.Depth.{Away, DepthsOf}
+use Rattle.preference.specs.Preference.{IsSpawn, comesFirst, ComesFirst, InOrder}
 use Rattle.cases.proofs.Rows.{Rows, programFrom}
 use Rattle.cases.proofs.Every.{every, every-each, cond-true, cond-false}
 

@@ -9,7 +9,7 @@ use native.Mathlib.Decide.{decLt}
 use lib.Dec.{eqb, ltb}
 use lib.ListN.{length, getD, length-append, List·getD-eq-default, List·getD-append}
 use borrow.Author.Tests.{lt-ltb, le-ltb}
-use Rattle.rules.specs.Choice.{at}
+use Rattle.size.specs.Numbers.{at}
 use Rattle.table.specs.Below.{any}
 use Rattle.table.specs.Record.{sortOf, fieldA, fieldB, fieldC, functions, nodes, edges, nodeSort, nodeOwner, nodeTarget, edgeFrom, edgeTo}
 use Rattle.table.specs.Program.{Program, programOf, within}

@@ -12,9 +12,9 @@ use Rattle.table.proofs.Below.{any-none, any-some, any-which}
 use Rattle.table.proofs.Booleans.{either-way, not-both, and-true-left, and-true-right, and-false-right}
 use Rattle.sync.specs.Synchronising.{Synchronising}
 use Rattle.size.specs.Size.{unbounded}
-use Rattle.rules.specs.Choice.{at}
+use Rattle.size.specs.Numbers.{at}
 use Rattle.sizes.specs.Answer.{SizesOf}
-use Rattle.sizes.specs.Values.{Values}
+use Rattle.solver.specs.Values.{Values}
 use Rattle.safety.specs.Safety.{Safe}
 use Rattle.safety.specs.Test.{PostsBelow, EdgesBounded, Tells}
 use Rattle.safety.proofs.Judging.{tells-safe}

@@ -18,7 +18,7 @@ use Rattle.table.proofs.Booleans.{either-way, not-both, or-true, and-true-left,
 use Rattle.sync.specs.Paths.{Path, stop, step, On, Holds, Clear}
 use Rattle.sync.specs.Synchronising.{Closed, Synchronising, ReachedBy, Reached}
 use Rattle.sync.proofs.Paths.{clear-or-holds, clear-holds-none}
-use Rattle.rules.specs.Choice.{at}
+use Rattle.size.specs.Numbers.{at}
 use Rattle.cases.proofs.Rows.{Rows, leads, programFrom}
 
 -- a list of bits as a set

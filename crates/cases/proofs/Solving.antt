@@ -14,17 +14,19 @@ use Rattle.table.proofs.Below.{any-some}
 use Rattle.table.proofs.Booleans.{either-way, not-both, and-true-left, and-true-right}
 use Rattle.sync.specs.Synchronising.{Synchronising, Reached}
 use Rattle.size.specs.Size.{unbounded}
-use Rattle.rules.specs.Choice.{at}
-use Rattle.rules.specs.System.{Entry, size, along, Form, takes, taken, formOf, gives, none, rule, Solved}
-use Rattle.rules.specs.Causes.{Given, RuleOf, DerOf, Lead}
-use Rattle.sizes.specs.Values.{Values, valueAt}
+use Rattle.size.specs.Numbers.{at}
+use Rattle.solver.specs.System.{gives, none, rule}
+use Rattle.solver.specs.Causes.{Lead}
+use Rattle.solver.specs.Values.{Values}
+use Rattle.solver.proofs.Rises.{In, lead-refl, lead-trans, rule-lead, pump}
+use Rattle.rules.specs.System.{Entry, size, along, Form, Given, RuleOf, DerOf, takes, taken, formOf, formsOf, Solved}
 use Rattle.sizes.specs.Answer.{SizesOf}
 use Rattle.rules.specs.declared.sums.Sum.the-variants.{After, Before, Through}
-use Rattle.sizes.proofs.Maps.{at-zeros}
-use Rattle.rules.proofs.Rises.{In, lead-refl, lead-trans, rule-lead, pump}
+use Rattle.size.proofs.Maps.{at-zeros}
+use Rattle.rules.proofs.Entries.{entry-same}
 use Rattle.rules.proofs.Solved.{solved-least, solved-after, solved-before}
 use Rattle.cases.proofs.Rows.{Rows, programFrom}
-use Rattle.cases.proofs.Entries.{same, same-is, among, among-in, put, entry-all, put-all}
+use Rattle.cases.proofs.Entries.{valueAt, same, same-is, among, among-in, put, entry-all, put-all}
 use Rattle.cases.proofs.Numbers.{Kind, kinds, all, all-kinds, count, form, system, asked, rule-of, number-of}
 
 -- A rule, by kind and number.
@@ -142,28 +144,28 @@ module _ (r : Rows) (synchronising reached : ℕ → Bool) (choice : ℕ → ℕ
   sweeps-kept (k ∷ l) v d = sweeps-kept l (sweep k (count r k) v) (sweep-kept k (count r k) v d)
 
   -- a rule gains on an entry of its body what it gives above it
-  gains : (v : Values) → Kept v → (k : Kind) (i : ℕ) → on k i ≡ true → (y : Entry) → In y (form r k i .body) → (w : ℕ) → Lead S (form r k i .head) (gives (valueAt v) (form r k i) - valueAt v y + w) y w
+  gains : (v : Values) → Kept v → (k : Kind) (i : ℕ) → on k i ≡ true → (y : Entry) → In y (form r k i .body) → (w : ℕ) → Lead (formsOf S) (form r k i .head) (gives (valueAt v) (form r k i) - valueAt v y + w) y w
   gains v d k i h y a w =
       let q = rule-on k i h in
-      let l = subst (λ (f : Form). In y (f .body) → Lead S (f .head) (gives (valueAt v) f) y (valueAt v y)) (q .1) (rule-lead S (valueAt v) d (q .0) y) a in
+      let l = subst (λ (f : Form). In y (f .body) → Lead (formsOf S) (f .head) (gives (valueAt v) f) y (valueAt v y)) (q .1) (rule-lead (formsOf S) entry-same (valueAt v) d (q .0) y) a in
       record { by = l .by; fits = omega (arith, l .fits); each = l .each }
 
-  climbs-lead : (v : Values) → Kept v → (x y : Entry) (w : ℕ) (l : List Name) → climbs v x y w l ≡ true → Lead S y w x 0 → DerOf S x unbounded
+  climbs-lead : (v : Values) → Kept v → (x y : Entry) (w : ℕ) (l : List Name) → climbs v x y w l ≡ true → Lead (formsOf S) y w x 0 → DerOf S x unbounded
   unfolding climbs
   climbs-lead v d x y w [] h g =
-      pump S x w 0 (subst (λ (i : Entry). Lead S i w x 0) (same-is y x (and-true-left (same y x) (ltb 0 w) h)) g) (ltb-true 0 w (and-true-right (same y x) (ltb 0 w) h))
+      pump (formsOf S) x w 0 (subst (λ (i : Entry). Lead (formsOf S) i w x 0) (same-is y x (and-true-left (same y x) (ltb 0 w) h)) g) (ltb-true 0 w (and-true-right (same y x) (ltb 0 w) h))
   climbs-lead v d x y w ((k, i) ∷ l) h g =
       let f = form r k i in
       let t = gives (valueAt v) f - valueAt v y + w in
       let rest = climbs v x (f .head) t l in
       let b = and-true-right (on k i) (among y (f .body) && rest) h in
       let a = among-in y (f .body) (and-true-left (among y (f .body)) rest b) in
-      climbs-lead v d x (f .head) t l (and-true-right (among y (f .body)) rest b) (lead-trans S (gains v d k i (and-true-left (on k i) _ h) y a w) g)
+      climbs-lead v d x (f .head) t l (and-true-right (among y (f .body)) rest b) (lead-trans (formsOf S) (gains v d k i (and-true-left (on k i) _ h) y a w) g)
 
   move-kept : (m : Move) (v : Values) → Kept v → Kept (move m v)
   unfolding move
   move-kept round v d = sweeps-kept kinds v d
-  move-kept (leap l) v d = let x = lastHead (size 0) l in kept-if (climbs v x x 0 l) v x unbounded d (λ h. climbs-lead v d x x 0 l h (lead-refl S x 0))
+  move-kept (leap l) v d = let x = lastHead (size 0) l in kept-if (climbs v x x 0 l) v x unbounded d (λ h. climbs-lead v d x x 0 l h (lead-refl (formsOf S) x 0))
 
   moves-kept : (l : List Move) (v : Values) → Kept v → Kept (moves l v)
   unfolding moves

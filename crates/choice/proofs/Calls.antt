@@ -10,15 +10,13 @@ use borrow.Author.Tests.{lt-ltb, le-ltb, ltb-false}
 use Rattle.table.specs.Refusal.{refusal}
 use Rattle.table.specs.Checks.{checks, Accepted}
 use Rattle.table.specs.Program.{programOf}
-use Rattle.table.specs.Answer.{Ready}
 use Rattle.table.proofs.Refusals.{refusal-pass, refusal-here, refusal-none, not-applied, refusal-over-none}
-use Rattle.sync.specs.Answer.{Sets}
 use Rattle.rules.specs.Rules.{entries}
 use Rattle.sizes.specs.Call.{done, refused, resultOf}
-use Rattle.sizes.specs.Known.{AdmittedFor}
+use Rattle.sizes.specs.Known.{SeenFor, AdmittedFor}
 use Rattle.sizes.specs.declared.Answer.{Answer}
 use Rattle.sizes.specs.declared.Answer.the-variants.{Done}
-use Rattle.rules.specs.declared.Known.{Known}
+use Rattle.sizes.specs.declared.admit.Seen.{Seen}
 use Rattle.sizes.proofs.Calls.{told-refused, told-done, none-refused, table-accepted, sizes-short, sizes-long, sizes-fit}
 use Rattle.choice.specs.Call.{BestCall, fewVerdicts, bufferChecks, bestChecks, bestResult}
 
@@ -60,27 +58,22 @@ verdicts-fit x e =
     (not-applied (fewVerdicts x) (programOf (x .table) .nodes) (refusal-none x bufferChecks e (record { number = 10; place = λ y. cond (fewVerdicts y) (some (programOf (y .table) .nodes)) none }) (search in-list depth 40)))
 
 -- what an admitted call has: nothing is refused, both results fit, and its table is known
-pub record Admission (x : BestCall) (known : Known) : Type 0 where
+pub record Admission (x : BestCall) (seen : Seen) : Type 0 where
   pub done-is : done ≡ bestResult x
-  pub accepted-is : Accepted (x .table)
   pub choice-fits : programOf (x .table) .nodes ≤ x .verdicts
   pub sizes-fits : entries (programOf (x .table)) ≤ x .buffer
-  pub ready : Ready (x .table) (known .of)
-  pub sets : Sets (programOf (x .table)) (known .synchronising) (known .reached)
+  pub known : SeenFor (x .table) seen
 
-pub admission : (x : BestCall) (answer : Answer) (known : Known) → answer ≡ Done → resultOf answer ≡ bestResult x → AdmittedFor (x .table) answer known → Admission x known
+pub admission : (x : BestCall) (answer : Answer) (seen : Seen) → answer ≡ Done → resultOf answer ≡ bestResult x → AdmittedFor (x .table) answer seen → Admission x seen
 unfolding bestResult bestChecks bufferChecks
-admission x answer known e r a =
+admission x answer seen e r a =
     let d : done ≡ bestResult x = rw e at r in
     let n = none-refused bestChecks x d in
     let t = table-accepted (λ (y : BestCall). y .table) bufferChecks x n in
     let b = sym (past-table x t) ∙ n in
-    let k : AdmittedFor (x .table) Done known = rw e at a in
     record {
       done-is = d;
-      accepted-is = t;
       choice-fits = verdicts-fit x b;
       sizes-fits = sizes-fit (λ (y : BestCall). y .table) (λ (y : BestCall). y .buffer) x bufferChecks (search in-list depth 40) b;
-      ready = k .0;
-      sets = k .1;
+      known = rw e at a;
     }

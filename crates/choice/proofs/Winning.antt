@@ -1,31 +1,26 @@
 -- What the two walks come to is safe, no safe choice beats it, and no other choice is like that.
 use Prim.Native.Nat.{ℕ, zero, suc, _<_, _≤_}
 use mathlib.Core.Path.{_≡_, sym, ap, _∙_, subst}
-use mathlib.Core.Bool.{Bool, true}
 use mathlib.Core.List.{List}
 use mathlib.Core.Logic.{_⊎_, inl, inr, ⊎-elim}
 use native.Mathlib.Nat.{eq-or-lt-of-le}
 use native.Mathlib.Omega.{arith}
 use native.Mathlib.Decide.{ℕ-discrete, decLe}
 use Rattle.table.specs.Record.{spawn}
-use Rattle.table.specs.Answer.{Ready}
+use Rattle.table.specs.Checks.{Accepted}
 use Rattle.table.specs.Program.{Program, programOf}
 use Rattle.table.specs.WellFormed.{WellFormed}
-use Rattle.table.specs.declared.Counts.{Counts}
-use Rattle.table.proofs.Booleans.{not-both}
 use Rattle.table.proofs.Laws.{well-formed}
-use Rattle.table.proofs.Ready.{nodes-are}
-use Rattle.rules.specs.Choice.{unmerged, guarded, unguarded, ChoiceFor}
-use Rattle.rules.specs.Rules.{LeastSizes}
-use Rattle.sizes.specs.Answer.{Written}
+use Rattle.rules.specs.Choice.{guarded, unguarded, ChoiceFor}
 use Rattle.sizes.specs.Call.{choiceOf}
+use Rattle.sizes.specs.declared.trials.Prepared.{Prepared}
 use Rattle.safety.specs.Safety.{Safe}
-use Rattle.safety.proofs.Laws.{safe-alike, unmerged-safe}
-use Rattle.choice.specs.Preference.{IsSpawn, comesFirst, ComesFirst, InOrder}
+use Rattle.safety.proofs.Laws.{safe-alike}
+use Rattle.preference.specs.Preference.{IsSpawn, ComesFirst, InOrder}
 use Rattle.choice.specs.Beats.{Alike, Wins, Beats, Best, Returned}
-use Rattle.choice.specs.Walk.{Unmerged, everySpawn, raisedTo, Sized, Walked, MergedAll, all-merged, not-merged, Merged, Chosen}
-use Rattle.choice.proofs.Firsts.{first-irreflexive, first-transitive, first-by}
-use Rattle.choice.proofs.Walking.{written-as, written-twice, every-spawn, every-other, unmerged-written, nothing-merged, walked-all}
+use Rattle.search.specs.Walk.{Unmerged, Walked, Searched}
+use Rattle.preference.proofs.Firsts.{stands-first}
+use Rattle.search.proofs.Laws.{nothing-merged}
 
 -- ---- of two choices one wins, or they are alike
 
@@ -33,30 +28,12 @@ abbrev AllAlike : Program → ℕ → (ℕ → ℕ) → (ℕ → ℕ) → Type 0
 AllAlike g k c d = (n : ℕ) → IsSpawn g n → Alike k c d n
 
 module _ (g : Program) (w : WellFormed g) (count : ℕ) (order : ℕ → ℕ) (o : InOrder g count order) where
-  -- what comes first stands first
-  stands-first : (l i : ℕ) → l < count → i < count → ComesFirst g (order l) (order i) → l < i
-  stands-first l i a b f = go (decLe (suc l) i)
-    where
-      back : i < l → ⊥
-      back h =
-          let p = first-by g w (f .depth) (f .depths-are) (order i) (order l) (o .spawns i b .exists) (o .spawns l a .exists) (o .sorted i l h a) in
-          first-irreflexive g (f .depth) (order l) (first-transitive g (f .depth) (order l) (order i) (order l) (f .first) p)
-
-      same : l ≡ i → ⊥
-      same e =
-          first-irreflexive g (f .depth) (order i)
-          (subst (λ (z : ℕ). comesFirst g (f .depth) (order z) (order i) ≡ true) e (f .first))
-
-      go : Dec (suc l ≤ i) → l < i
-      go (yes h) = h
-      go (no h) = absurd (⊎-elim (λ (e : i ≡ l). same (sym e)) back (eq-or-lt-of-le (omega arith)))
-
   module _ (k : ℕ) (c d : ℕ → ℕ) where
     before-alike : (i : ℕ) → i < count → ((l : ℕ) → l < i → Alike k c d (order l)) → (m : ℕ) → IsSpawn g m → ComesFirst g m (order i) → Alike k c d m
     before-alike i h a m s f =
         let q = o .all m s in
         subst (λ (z : ℕ). Alike k c d z) (q .2)
-        (a (q .0) (stands-first (q .0) i (q .1) h (subst (λ (z : ℕ). ComesFirst g z (order i)) (sym (q .2)) f)))
+        (a (q .0) (stands-first g w o (q .0) i (q .1) h (subst (λ (z : ℕ). ComesFirst g z (order i)) (sym (q .2)) f)))
 
     one-wins : (i : ℕ) → i ≤ count → ((l : ℕ) → l < i → Alike k c d (order l)) ⊎ (Wins g k c d ⊎ Wins g k d c)
     one-wins zero h = inl (λ l q. absurd (omega arith))
@@ -226,42 +203,8 @@ module _ (g : Program) (w : WellFormed g) (count : ℕ) (order : ℕ → ℕ) (o
   pub walks-return : Returned g final
   walks-return = return-unbeaten g w count order o final final-for (two .safe) beaten-by-none
 
--- ---- from the bytes
-
-pub unmerged-is : (t : List ℕ) (of : Counts) → Ready t of → {old new : List ℕ} → Written (of .nodes) (everySpawn (programOf t) unmerged) old new → Unmerged (programOf t) (choiceOf new)
-unmerged-is t of r {old} {new} w = unmerged-written (programOf t) old new (of .nodes) (nodes-are t of r) w
-
-pub unmerged-ready : (t : List ℕ) (of : Counts) → Ready t of → {old new : List ℕ} → Written (of .nodes) (everySpawn (programOf t) unmerged) old new → (s : ℕ → ℕ) → LeastSizes (programOf t) (choiceOf new) s → Safe (programOf t) (choiceOf new)
-unmerged-ready t of r {old} {new} w s l = unmerged-safe (programOf t) (choiceOf new) (nothing-merged (programOf t) (choiceOf new) (unmerged-is t of r w)) (well-formed t (r .accepted-is)) s l
-
--- all merged at once is what the first walk comes to; and so is one by one, from unmerged everywhere
-module _ (t : List ℕ) (of : Counts) (r : Ready t of) (count : ℕ) (order : ℕ → ℕ) (o : InOrder (programOf t) count order) where
-  abbrev g : Program
-  g = programOf t
-
-  pub merged-at-once : {set reached : ℕ → Bool} {old new from to : List ℕ} {done : Bool} → MergedAll g set reached (of .nodes) old new from to done → done ≡ true → Merged g count order (choiceOf new) × Written (of .nodes) (choiceOf new) old new × Sized g set reached (choiceOf new) to
-  merged-at-once {done = done} (not-merged n w e) q = not-both done q n
-  merged-at-once {new = new} (all-merged y w x z) q = (
-    record {
-      start = everySpawn g unmerged;
-      unmerged-is = record { spawns = λ n i. every-spawn g unmerged n (i .spawns); others = λ n h e. every-other g unmerged n e };
-      walked = walked-all g guarded count order (everySpawn g unmerged) (choiceOf new) o (omega arith) (λ n h e. every-other g unmerged n e) (λ n h. w .written n (omega (arith, nodes-are t of r)) ∙ sym (raise n (ℕ-discrete (g .sort n) spawn))) x;
-    },
-    written-as w,
-    z,
-  )
-    where
-      raise : (n : ℕ) → Dec (g .sort n ≡ spawn) → raisedTo guarded (everySpawn g unmerged n) ≡ everySpawn g guarded n
-      raise n (yes e) = ap (raisedTo guarded) (every-spawn g unmerged n e) ∙ sym (every-spawn g guarded n e)
-      raise n (no e) = ap (raisedTo guarded) (every-other g unmerged n e) ∙ sym (every-other g guarded n e)
-
-  pub merged-one-by-one : {old start : List ℕ} {to : ℕ → ℕ} → Written (of .nodes) (everySpawn g unmerged) old start → Walked g guarded count order (choiceOf start) to → Merged g count order to
-  merged-one-by-one {old} {start} w x = record { start = choiceOf start; unmerged-is = unmerged-written g old start (of .nodes) (nodes-are t of r) w; walked = x }
-
-  -- what the two walks come to
-  pub chosen : {old middle final : List ℕ} → Merged g count order (choiceOf middle) → Written (of .nodes) (choiceOf middle) old middle → Written (of .nodes) (choiceOf final) middle final → Walked g unguarded count order (choiceOf middle) (choiceOf final) → (s : ℕ → ℕ) → LeastSizes g (choiceOf final) s → Chosen g old final s
-  chosen {old} {middle} {final} m b c two s l = record {
-    returned = walks-return g (well-formed t (r .accepted-is)) count order o (m .start) (choiceOf middle) (choiceOf final) (m .unmerged-is) (m .walked) two;
-    written = rw (nodes-are t of r) at (written-twice (of .nodes) (choiceOf middle) old middle final b c);
-    sizes-are = l;
-  }
+-- so what a search comes to is the choice to return
+pub searched-returned : {t : List ℕ} {p : Prepared} {old new sizes : List ℕ} → Accepted t → Searched t p old new sizes → Returned (programOf t) (choiceOf new)
+searched-returned {t} {new = new} a x =
+    let m = x .merged in
+    walks-return (programOf t) (well-formed t a) (x .count) (x .order) (x .in-order) (m .start) (x .middle) (choiceOf new) (m .unmerged-is) (m .walked) (x .walked)

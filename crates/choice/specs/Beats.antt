@@ -5,7 +5,7 @@ use mathlib.Core.Logic.{_⊎_, _↔_}
 use Rattle.table.specs.Program.{Program}
 use Rattle.rules.specs.Choice.{guarded, unguarded, ChoiceFor}
 use Rattle.safety.specs.Safety.{Safe}
-use Rattle.choice.specs.Preference.{IsSpawn, ComesFirst}
+use Rattle.preference.specs.Preference.{IsSpawn, ComesFirst}
 
 -- Merging a spawn is a verdict of `guarded` or more, leaving it unguarded one of `unguarded` (`Merges`, `LeavesUnguarded`):
 -- what follows is said once, of verdicts of k or more. Both choices give spawn n such a verdict, or neither does.

@@ -8,7 +8,7 @@ use lib.Dec.{ltb}
 use Rattle.table.specs.Refusal.{Check, over, refusal}
 use Rattle.table.specs.Checks.{checks}
 use Rattle.table.specs.Program.{programOf}
-use Rattle.sizes.specs.Answer.{Written}
+use Rattle.size.specs.Numbers.{Written}
 use Rattle.sizes.specs.Call.{choiceOf, sizesRow, Result, resultFor, Leaves}
 use Rattle.sizes.specs.declared.Answer.{Answer}
 use Rattle.sizes.specs.declared.Answer.the-variants.{Done, Refused}

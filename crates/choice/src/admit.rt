@@ -26,18 +26,18 @@ fn judge(of: Counts, t: &[u8], verdicts: usize, buffer: usize) -> Answer
 }
 
 // Judges a call with a verdict buffer of so many bytes and a sizes buffer of so many numbers.
-pub fn admit(t: &[u8], verdicts: usize, buffer: usize) -> Admitted
+pub(crate) fn admit(t: &[u8], verdicts: usize, buffer: usize) -> Admitted
     ensures { λ r. ⌜ resultOf (r .answer) ≡ bestResult (bestCall (now (t .entry)) verdicts buffer) ⌝ }
-    ensures { λ r. ⌜ AdmittedFor (now (t .entry)) (r .answer) (r .known) ⌝ }
+    ensures { λ r. ⌜ AdmittedFor (now (t .entry)) (r .answer) (r .seen) ⌝ }
 {
-    let seen = look(t);
-    let known = seen.known;
-    let answer = seen.answer;
+    let looked = look(t);
+    let seen = looked.seen;
+    let answer = looked.answer;
     match answer {
         Answer::Done => Admitted {
-            answer: judge(known.of, t, verdicts, buffer),
-            known,
+            answer: judge(seen.of, t, verdicts, buffer),
+            seen,
         },
-        Answer::Refused(_, _) => seen,
+        Answer::Refused(_, _) => looked,
     }
 }

@@ -1,5 +1,3 @@
-// Orders of a table's functions, nodes and edges, in which searches and rules settle quickly. Nothing else depends on them: what is promised is
-// only that each function, node and edge stands in its order.
-pub mod edges;
-pub mod groups;
+// Orders of the numbers below k, which the crates above find for a table's functions, nodes and edges. What is promised of one is only that each
+// number stands in it.
 pub mod sure;

@@ -1,8 +1,8 @@
 // Orders of the numbers below k, written and read as entries of a lent buffer. Reads and writes past an end are harmless.
 ghost use mathlib.Core.Path.{_≡_};
 ghost use mathlib.Core.Bool.{true};
-ghost use Prim.Native.Nat.{_<_, _≤_};
-ghost use lib.ListN.{length, getD};
+ghost use Prim.Native.Nat.{_<_, _≤_, _%_};
+ghost use lib.ListN.{length, getD, set};
 ghost use Rattle.order.specs.Order.{Ordered, Placed};
 
 fn wide(x: u16) -> usize
@@ -25,8 +25,10 @@ pub fn get(a: &[u16], i: usize) -> usize
     if i < a.len() { wide(a[i]) } else { 0 }
 }
 
-// Makes x entry i, and does nothing past the end.
-pub fn put(a: &mut [u16], i: usize, x: usize) {
+// Makes x entry i, as far as it fits, and does nothing past the end.
+pub fn put(a: &mut [u16], i: usize, x: usize)
+    ensures { λ _. ⌜ now (a .exit) ≡ set (now (a .entry)) i (x % 65536) ⌝ }
+{
     if i < a.len() {
         a[i] = narrow(x % 65536);
     }

@@ -1,18 +1,12 @@
--- How far the rules reach: no head past the entries, and how many rules a table can have.
+-- How far the rules reach: no head past the entries.
 use Prim.Native.Nat.{ℕ, _<_, _≤_}
 use mathlib.Core.Path.{_≡_, refl, sym, subst}
 use mathlib.Core.Bool.{Bool}
-use mathlib.Core.List.{List}
 use native.Mathlib.Omega.{arith}
-use Rattle.table.specs.Answer.{Ready}
 use Rattle.table.specs.Program.{Program}
 use Rattle.table.specs.WellFormed.{WellFormed}
-use Rattle.table.specs.declared.Counts.{Counts}
-use Rattle.table.proofs.Laws.{few-edges}
-use Rattle.table.proofs.Ready.{few-functions, few-nodes}
 use Rattle.rules.specs.Rules.{through, entries}
 use Rattle.rules.specs.System.{Entry, size, along, kindFor, Rule, start, step-on, end, total-node, total-edge, target-of, formOf, Der, none, rule}
-use Rattle.rules.specs.Listed.{slots}
 use Rattle.rules.specs.declared.sums.Sum.{Sum}
 use Rattle.rules.specs.declared.sums.Sum.the-variants.{After, Before, Through}
 
@@ -39,6 +33,3 @@ module _ (g : Program) (w : WellFormed g) (set reached : ℕ → Bool) (choice :
   pub none-past : {x t : ℕ} → Der g set reached choice (size x) t → entries g ≤ x → t ≡ 0
   none-past none h = refl
   none-past (rule r v e d l) h = absurd (omega (arith, subst (Within g) (sym e) (head-within r)))
-
-pub slots-few : {t : List ℕ} {c : Counts} → Ready t c → slots c ≤ 8384
-slots-few {t} {c} r = omega (arith, few-nodes t c r, few-functions t c r, few-edges t (r .accepted-is), r .counts-are .edges-are)

@@ -1,5 +1,5 @@
 -- The numbers that the code gives a rule say what the rule says. What the functions that it calls give is taken as they give it.
-use Prim.Native.Nat.{ℕ, _+_, _*_, _/_, _%_, _<_, _≤_, zero, suc}
+use Prim.Native.Nat.{ℕ, _+_, _*_, _/_, _%_, _<_, _≤_}
 use mathlib.Core.Path.{_≡_, refl, sym, ap, ap₂, _∙_}
 use mathlib.Core.List.{List, [], _∷_}
 use native.Mathlib.Omega.{arith}
@@ -13,11 +13,12 @@ use Rattle.size.specs.declared.Size.{Size}
 use Rattle.size.proofs.Values.{value-le}
 use Rattle.rules.specs.Rules.{frameOf}
 use Rattle.rules.specs.System.{Entry, size, along, kindFor, from, to, ending, due, taken, startForm, stepForm, endForm, totalNodeForm, totalEdgeForm, targetForm}
-use Rattle.rules.specs.Causes.{offset, entryCount, entryAt}
-use Rattle.rules.specs.Listed.{Means}
+use Rattle.rules.specs.Entries.{offset, entryAt}
+use Rattle.solver.specs.Words.{entryCount}
+use Rattle.rules.specs.Numbered.{Means}
 use Rattle.rules.specs.declared.sums.Sum.{Sum}
 use Rattle.rules.specs.declared.sums.Sum.the-variants.{After}
-use Rattle.rules.proofs.Rises.{entry-size, entry-along}
+use Rattle.rules.proofs.Entries.{entry-size, entry-along}
 
 -- entry e is number x
 record Is (e : Entry) (x : ℕ) : Type 0 where
@@ -94,12 +95,3 @@ module _ {t : List ℕ} {c : Counts} (ready : Ready t c) where
       two _ _ (is-size _ _ (omega (arith, few ready)) (omega (arith, e))) (sym (base-is ∙ z-is ∙ ap (frameOf (programOf t)) e)) (omega (arith, value-le z))
       (is-along After _ _ _ x-is (omega (arith, few ready)) (p-is .0)) (omega (arith, few ready))
       (omega (arith, q-is, functions-are t c ready))
-
--- the last arm of a match on a number: it is none of those below k
-abbrev pub Not : ℕ → ℕ → Type 0
-Not zero g = Unit {0}
-Not (suc k) g = Not k g × (g ≡ k → ⊥)
-
-pub past : (k g : ℕ) → Not k g → k ≤ g
-past zero g n = omega arith
-past (suc k) g n = omega (arith, past k g (n .0), n .1)

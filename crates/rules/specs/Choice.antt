@@ -1,14 +1,8 @@
 -- Document 01, "Sizes and their rules" and "Preference and the best choice": choices. (Document 01's word; a choice is a map of verdicts.)
 use Prim.Native.Nat.{ℕ, _<_, _≤_}
 use mathlib.Core.Path.{_≡_}
-use mathlib.Core.List.{List}
-use lib.ListN.{getD}
 use Rattle.table.specs.Record.{spawn}
 use Rattle.table.specs.Program.{Program}
-
--- A list of numbers as a map: by place, and 0 past its end.
-abbrev pub at : List ℕ → ℕ → ℕ
-at l i = getD l i 0
 
 -- "else 1 unmerged, 2 merged guarded, 3 merged unguarded"
 abbrev pub unmerged : ℕ
@@ -31,3 +25,7 @@ Merges choice n = guarded ≤ choice n
 
 abbrev pub LeavesUnguarded : (ℕ → ℕ) → ℕ → Type 0
 LeavesUnguarded choice n = unguarded ≤ choice n
+
+-- One choice is at or below another, node by node: it gives no spawn a larger verdict.
+abbrev pub AtMost : Program → (ℕ → ℕ) → (ℕ → ℕ) → Type 0
+AtMost g c d = (n : ℕ) → n < g .nodes → c n ≤ d n

@@ -4,5 +4,5 @@ pub mod Rules
 pub mod Sums
 -- What only helps proofs.
 pub mod System
-pub mod Causes
-pub mod Listed
+pub mod Entries
+pub mod Numbered

@@ -6,7 +6,9 @@ use mathlib.Core.Bool.{Bool, true, cond, not, _&&_, _||_}
 use lib.Dec.{eqb, leb}
 use Rattle.table.specs.Record.{call, spawn}
 use Rattle.table.specs.Program.{Program}
-use Rattle.size.specs.Size.{cap}
+use Rattle.solver.specs.System.{Derives, Solves}
+use Rattle.solver.specs.System.{Form as FormOf}
+pub use Rattle.solver.specs.System.{sumOf, gives, none, rule}
 use Rattle.rules.specs.Choice.{guarded, unguarded}
 use Rattle.rules.specs.Rules.{total, post, pre, through, frameOf}
 use Rattle.rules.specs.declared.sums.Sum.{Sum}
@@ -23,11 +25,8 @@ functionEntry k f = size (4 * f + k)
 abbrev pub nodeEntry : Program → ℕ → ℕ → Entry
 nodeEntry g k n = size (4 * (g .functions + n) + k)
 
--- What a rule says: its head is at least its base and the entries of its body, added up.
-pub record Form : Type 0 where
-  pub head : Entry
-  pub base : ℕ
-  pub body : List Entry
+abbrev pub Form : Type 0
+Form = FormOf Entry
 
 -- The kind of size that a sum starts from at a node, and of the size that it gives a function.
 abbrev pub kindFor : Sum → ℕ
@@ -118,25 +117,33 @@ module _ {g : Program} {set reached : ℕ → Bool} {choice : ℕ → ℕ} where
   formOf (total-edge p n e) = totalEdgeForm g p n
   formOf (target-of n k h l b) = targetForm g n k
 
-abbrev pub sumOf : (Entry → ℕ) → List Entry → ℕ
-sumOf v [] = 0
-sumOf v (x ∷ l) = v x + sumOf v l
+-- What the system rests on.
+pub record Given : Type 0 where
+  pub program : Program
+  pub synchronising : ℕ → Bool
+  pub reached : ℕ → Bool
+  pub choice : ℕ → ℕ
 
--- what a rule gives from the entries' present values
-abbrev pub gives : (Entry → ℕ) → Form → ℕ
-gives v f = cap (f .base + sumOf v (f .body))
+abbrev pub RuleOf : Given → Type 0
+RuleOf S = Rule (S .program) (S .synchronising) (S .reached) (S .choice)
+
+abbrev pub formsOf : (S : Given) → RuleOf S → Form
+formsOf S r = formOf r
 
 module _ (g : Program) (set reached : ℕ → Bool) (choice : ℕ → ℕ) where
-  -- what the rules derive: 0, and what a rule gives from derived values, or less
-  pub data Der : Entry → ℕ → Type 0 where
-    none : {x : Entry} → Der x 0
-    rule : {x : Entry} {t : ℕ} (r : Rule g set reached choice) (v : Entry → ℕ) → x ≡ formOf r .head → ((y : Entry) → Der y (v y)) → t ≤ gives v (formOf r) → Der x t
+  abbrev given-by : Given
+  given-by = record { program = g; synchronising = set; reached = reached; choice = choice }
 
-  -- values that are derived, and from which no rule raises anything
-  pub record Solved (v : Entry → ℕ) : Type 0 where
-    pub derived : (x : Entry) → Der x (v x)
-    pub closed : (r : Rule g set reached choice) → gives v (formOf r) ≤ v (formOf r .head)
+  -- what the rules derive, and their least solution
+  abbrev pub Der : Entry → ℕ → Type 0
+  Der = Derives (formsOf given-by)
+
+  abbrev pub Solved : (Entry → ℕ) → Type 0
+  Solved = Solves (formsOf given-by)
 
   -- sizes that are derived, whatever the sums
   pub record Derived (sizes : ℕ → ℕ) : Type 0 where
-    pub each : (x : ℕ) → Der (size x) (sizes x)
+    pub each : (x : ℕ) → Derives (formsOf given-by) (size x) (sizes x)
+
+abbrev pub DerOf : Given → Entry → ℕ → Type 0
+DerOf S = Derives (formsOf S)

@@ -15,7 +15,6 @@ use crate::sums::to_node;
 use crate::targets::kind_taken;
 use crate::targets::rests_on_target;
 use table::Counts;
-use table::program;
 ghost use mathlib.Core.Path.{_≡_};
 ghost use mathlib.Core.Bool.{true};
 ghost use Prim.Native.Nat.{_*_, _<_, _/_, _%_};
@@ -23,13 +22,13 @@ ghost use Rattle.table.specs.Record.{edgeFrom, edgeTo};
 ghost use Rattle.table.specs.Answer.{Ready};
 ghost use Rattle.table.specs.Program.{programOf};
 ghost use Rattle.sync.specs.Words.{member};
-ghost use Rattle.rules.specs.Choice.{at};
+ghost use Rattle.size.specs.Numbers.{at};
 ghost use Rattle.rules.specs.System.{takes, starts, steps, ends, startForm, stepForm, endForm, totalNodeForm, totalEdgeForm, targetForm};
-ghost use Rattle.rules.specs.Listed.{countOf, onAt, formAt, Means};
+ghost use Rattle.rules.specs.Numbered.{countOf, onAt, formAt, Means};
 
 // Which rules: of the sizes of nodes that rest on a target; of a sum of nodes, where it starts, along the edges, and where it is done;
 // of Total, by nodes and by edges.
-pub(crate) enum Kind {
+pub enum Kind {
     Target,
     Start(Sum),
     Step(Sum),
@@ -39,27 +38,12 @@ pub(crate) enum Kind {
 }
 
 // A rule, if it is there. `other` is a size, or 4095 where there is no other entry.
-pub(crate) struct Rule {
+pub struct Rule {
     pub on: bool,
     pub head: usize,
     pub base: u32,
     pub part: usize,
     pub other: usize,
-}
-
-// How many rules of a kind there are, by number.
-pub(crate) fn count(kind: Kind, of: Counts) -> usize
-    requires { ⌜ of .nodes < 65536 ⌝ }
-    ensures { λ r. ⌜ r ≡ countOf of kind ⌝ }
-{
-    match kind {
-        Kind::Target => 4 * of.nodes,
-        Kind::Start(_) => of.nodes,
-        Kind::Step(_) => of.edges,
-        Kind::End(_) => of.functions,
-        Kind::TotalNode => of.nodes,
-        Kind::TotalEdge => of.edges,
-    }
 }
 
 // Size k of node n, as number 4 n + k: a call's rests on the same size of its target, a merged spawn's on Total.
@@ -169,7 +153,7 @@ fn total_edge_rule(t: &[u8], known: Known, e: usize) -> Rule
 }
 
 // Rule i of a kind.
-pub(crate) fn numbered(kind: Kind, t: &[u8], choice: &[u8], known: Known, i: usize) -> Rule
+pub fn numbered(kind: Kind, t: &[u8], choice: &[u8], known: Known, i: usize) -> Rule
     requires { ⌜ Ready (now t) (known .of) × (i < countOf (known .of) kind) ⌝ }
     ensures { λ r. ⌜ r .on ≡ onAt (now (t .entry)) (now (choice .entry)) known kind i ⌝ }
     ensures { λ r. ⌜ Means (formAt (now (t .entry)) kind i) (r .head) (r .base) (r .part) (r .other) ⌝ }

@@ -1,7 +1,5 @@
-// The rules of sizes as a list of words. Document 01, "Sizes and their rules".
-pub mod force;
-mod kinds;
-pub mod list;
+// The rules of sizes as a finite system, by kind and number. Document 01, "Sizes and their rules".
+pub mod kinds;
 pub mod sums;
 pub mod targets;
 

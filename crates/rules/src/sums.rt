@@ -3,7 +3,6 @@ use crate::Known;
 use size::Size;
 use sync::words::has;
 use table::Counts;
-use table::program;
 ghost use mathlib.Core.Path.{_≡_};
 ghost use Prim.Native.Nat.{_+_, _<_, _≤_};
 ghost use Rattle.table.specs.Answer.{Ready};
@@ -12,7 +11,7 @@ ghost use Rattle.sync.specs.Words.{member};
 ghost use Rattle.size.specs.Size.{valueOf};
 ghost use Rattle.rules.specs.Rules.{frameOf};
 ghost use Rattle.rules.specs.System.{kindFor, starts, from, to, steps, ending, ends, due};
-ghost use Rattle.rules.specs.Causes.{offset};
+ghost use Rattle.rules.specs.Entries.{offset};
 
 // Which sum of a node: the largest, over open paths, of
 // After: Post of the first node and Through of the others, on paths that end at the node with no member after the first;

@@ -1,11 +1,10 @@
 // Which sizes of calls and merged spawns rest on their targets.
 use table::Counts;
-use table::program;
 ghost use mathlib.Core.Path.{_≡_};
 ghost use Prim.Native.Nat.{_<_, _≤_};
 ghost use Rattle.table.specs.Answer.{Ready};
 ghost use Rattle.table.specs.Program.{programOf};
-ghost use Rattle.rules.specs.Choice.{at};
+ghost use Rattle.size.specs.Numbers.{at};
 ghost use Rattle.rules.specs.System.{takes, taken};
 
 // The byte of node n in a choice, and 0 past its end.
@@ -16,7 +15,7 @@ pub fn chosen(choice: &[u8], n: usize) -> u8
 }
 
 // Whether size k of node n rests on its target: of a call each size, of a merged spawn Total and Post, and if it is unguarded each.
-pub(crate) fn rests_on_target(t: &[u8], choice: &[u8], of: Counts, n: usize, k: usize) -> bool
+pub fn rests_on_target(t: &[u8], choice: &[u8], of: Counts, n: usize, k: usize) -> bool
     requires { ⌜ Ready (now t) of × (n < of .nodes) ⌝ }
     ensures { λ r. ⌜ r ≡ takes (programOf (now (t .entry))) (at (now (choice .entry))) n k ⌝ }
 {

@@ -1,24 +1,33 @@
 -- From the two tests to safety, and back.
 use Prim.Native.Nat.{ℕ, _+_, _*_, _<_, _≤_}
 use mathlib.Core.Path.{_≡_, refl, sym, ap, _∙_, subst, fun-ext}
-use mathlib.Core.Bool.{Bool, true, false}
+use mathlib.Core.Bool.{Bool, true}
+use mathlib.Core.List.{List}
 use native.Mathlib.Omega.{arith}
-use Rattle.table.specs.Program.{Program}
+use Rattle.table.specs.Answer.{Ready}
+use Rattle.table.specs.Program.{Program, programOf}
+use Rattle.table.specs.declared.Counts.{Counts}
 use Rattle.table.specs.WellFormed.{WellFormed}
-use Rattle.table.proofs.Booleans.{not-both}
+use Rattle.table.proofs.Laws.{well-formed}
+use Rattle.table.proofs.Ready.{nodes-are}
+use Rattle.sync.specs.Words.{member}
+use Rattle.size.specs.Numbers.{at}
+use Rattle.rules.specs.declared.Known.{Known}
+use Rattle.sizes.specs.Known.{Looked}
+use Rattle.sizes.specs.Trials.{FoundFor}
 use Rattle.sync.specs.Paths.{Path, Open}
 use Rattle.sync.specs.Synchronising.{Synchronising}
 use Rattle.sync.proofs.Laws.{synchronising-unique}
 use Rattle.size.specs.Size.{unbounded}
-use Rattle.rules.specs.Rules.{entries}
+use Rattle.rules.specs.Choice.{AtMost}
+use Rattle.rules.specs.Rules.{entries, LeastSizes}
 use Rattle.rules.specs.Sums.{afterSum, beforeSum}
 use Rattle.sizes.specs.Answer.{SizesOf}
-use Rattle.rules.specs.System.{Derived}
 use Rattle.sizes.proofs.Laws.{sizes-unique}
 use Rattle.safety.specs.Safety.{cut, Safe}
-use Rattle.safety.specs.Test.{PostsBelow, EdgesBounded, Tells, Judged}
+use Rattle.safety.specs.Test.{PostsBelow, EdgesBounded, Tells}
 use Rattle.safety.proofs.Cuts.{edges-cuts, cuts-edges}
-use Rattle.safety.proofs.Laws.{front-le, back-le}
+use Rattle.safety.proofs.Laws.{front-le, back-le, safe-smaller}
 
 -- the tests may look at other numbers, if they are the sizes of all functions
 tells-same : (g : Program) → WellFormed g → (s u : ℕ → ℕ) → ((x : ℕ) → x < entries g → u x ≡ s x) → {r : Bool} {E : Type 0} → Tells r (PostsBelow g u (g .nodes) × E) → Tells r (PostsBelow g s (g .nodes) × E)
@@ -73,8 +82,14 @@ module _ (g : Program) (w : WellFormed g) (set : ℕ → Bool) (set-is : Synchro
     only-if = λ safe. t .only-if (subst (PostsBelow g s) (sym e) (safe-posts safe), safe-edges safe);
   }
 
-  pub judged : (nodes : ℕ) {r : Bool} → nodes ≡ g .nodes → Tells r (PostsBelow g s nodes × EdgesBounded g after before) → {reached : ℕ → Bool} → Derived g set reached c s → Judged g set reached c s r
-  judged nodes e t d = record { tells = tells-safe nodes e t; sizes-are = (set, set-is, x .least); derived = d }
-
   pub tells-written : (nodes : ℕ) {r : Bool} → nodes ≡ g .nodes → (u : ℕ → ℕ) → ((y : ℕ) → y < entries g → u y ≡ s y) → Tells r (PostsBelow g u nodes × EdgesBounded g after before) → Tells r (Safe g c)
   tells-written nodes {r} e u same t = tells-safe (g .nodes) refl (tells-same g w s u same (subst (λ (n : ℕ). Tells r (PostsBelow g u n × EdgesBounded g after before)) e t))
+
+-- a choice that has sizes and is not safe: no choice at or above it is
+pub none-above : (g : Program) → WellFormed g → (c s : ℕ → ℕ) → LeastSizes g c s → (Safe g c → ⊥) → (d : ℕ → ℕ) → AtMost g c d → Safe g d → ⊥
+none-above g w c s l n d b safe = n (safe-smaller g w c d s l b safe)
+
+-- what was found and written is what the tests look at
+pub tells-found : (t : List ℕ) {known : Known} {of : Counts} → Looked t known → Ready t of → (c : ℕ → ℕ) {old new after before : List ℕ} → FoundFor t known c old new after before → {r : Bool} → Tells r (PostsBelow (programOf t) (at new) (of .nodes) × EdgesBounded (programOf t) (at after) (at before)) → Tells r (Safe (programOf t) c)
+tells-found t {known} {of} looked ready c f told =
+    tells-written (programOf t) (well-formed t (ready .accepted-is)) (member (known .synchronising)) (looked .sets .set) c (f .sizes) _ _ (f .sizes-of) (of .nodes) (nodes-are t of ready) _ (f .written .written) told

@@ -16,9 +16,10 @@ use Rattle.sync.specs.Synchronising.{Synchronising}
 use Rattle.sync.proofs.Laws.{synchronising-unique}
 use Rattle.sync.proofs.Paths.{path-exists}
 use Rattle.size.specs.Size.{unbounded}
+use Rattle.rules.specs.Choice.{AtMost}
 use Rattle.rules.specs.Rules.{through, ofNode, sum, sumAfter, sumBefore, entries, Meets, Least, LeastSizes}
 use Rattle.rules.specs.Sums.{afterSum, beforeSum}
-use Rattle.sizes.proofs.Laws.{AtMost, least-alike, sizes-grow}
+use Rattle.sizes.proofs.Laws.{least-alike, sizes-grow}
 use Rattle.safety.specs.Safety.{GivesBack, cut, Safe}
 
 module _ (g : Program) (w : WellFormed g) (s u : ℕ → ℕ) (le : (x : ℕ) → x < entries g → s x ≤ u x) where

@@ -13,7 +13,7 @@ use Rattle.table.proofs.Booleans.{not-both}
 use Rattle.table.proofs.Laws.{edge-which}
 use Rattle.table.proofs.Ready.{edge-is}
 use Rattle.size.specs.Size.{unbounded}
-use Rattle.rules.specs.Choice.{at}
+use Rattle.size.specs.Numbers.{at}
 use Rattle.safety.specs.Test.{PostsBelow, EdgesBounded, Tells}
 
 -- what a test that ended says

@@ -1,25 +1,23 @@
 // Safety of a choice. Document 01, "Safety".
-use rules::Known;
 use sizes::admit::admit;
 use sizes::find::find;
-use sizes::find::find_from;
+use sizes::trials::Prepared;
+use sizes::trials::copy;
+use sizes::trials::find_from;
 use table::Counts;
-use table::program;
 ghost use mathlib.Core.Path.{_≡_};
 ghost use Prim.Native.Nat.{_≤_};
 ghost use lib.ListN.{length};
 ghost use Rattle.table.specs.Answer.{Ready};
 ghost use Rattle.table.specs.Program.{programOf};
-ghost use Rattle.sync.specs.Words.{member};
-ghost use Rattle.sync.specs.Answer.{Sets};
-ghost use Rattle.rules.specs.Choice.{at};
+ghost use Rattle.size.specs.Numbers.{at};
 ghost use Rattle.rules.specs.Rules.{entries};
 ghost use Rattle.sizes.specs.Call.{choiceOf};
-ghost use Rattle.rules.specs.System.{Derived};
-ghost use Rattle.rules.specs.Listed.{Widest};
 ghost use Rattle.sizes.specs.Known.{call};
+ghost use Rattle.sizes.specs.Trials.{PreparedFor, StartsFor};
 ghost use Rattle.safety.specs.Call.{Answers, LeavesSizes};
-ghost use Rattle.safety.specs.Test.{PostsBelow, EdgesBounded, Tells, Judged};
+ghost use Rattle.safety.specs.Test.{PostsBelow, EdgesBounded, Tells};
+ghost use Rattle.safety.specs.Trial.{Tried};
 
 // What the call for one choice comes to: `Answers` in specs/Call.antt says what each case stands for.
 pub enum Answer {
@@ -76,33 +74,39 @@ fn both_hold(t: &[u8], of: Counts, sizes: &[u32], after: &[u32], before: &[u32])
     false
 }
 
-// Finds the sizes of a choice from those of a smaller one, and says whether it is safe. For the search above, which has the rules of the
-// widest choice at hand: it tells the passes that finding them took.
-pub fn judge(
+// A trial for the search above: finds the sizes of a choice from zeros, or from those of a smaller one, and says whether it is safe. If it
+// is, its sizes take the place of the numbers started from; if not, these stay. The passes that this took are told.
+pub fn trial(
     t: &[u8],
+    prepared: Prepared,
+    words: &[u64],
     choice: &[u8],
-    known: Known,
-    all: &[u64],
     sizes: &mut [u32],
     passes: &mut u32,
 ) -> bool
-    requires { ⌜ Ready (now t) (known .of) × Sets (programOf (now t)) (known .synchronising) (known .reached) × Widest (now t) known (now all) ⌝ }
-    requires { ⌜ (length (now sizes) ≡ 2304) × Derived (programOf (now t)) (member (known .synchronising)) (member (known .reached)) (choiceOf (now choice)) (at (now sizes)) ⌝ }
-    ensures { λ r. ⌜ Judged (programOf (now (t .entry))) (member (known .synchronising)) (member (known .reached)) (choiceOf (now (choice .entry))) (at (now (sizes .exit))) r ⌝ }
+    requires { ⌜ PreparedFor (now t) prepared (now words) × StartsFor (now t) prepared (choiceOf (now choice)) (now sizes) ⌝ }
+    ensures { λ r. ⌜ Tried (now (t .entry)) prepared (choiceOf (now (choice .entry))) (now (sizes .entry)) (now (sizes .exit)) r ⌝ }
 {
+    let of = prepared.of;
+    let mut found = [0u32; 2304];
     let mut after = [0u32; 512];
     let mut before = [0u32; 512];
     find_from(
         t,
+        prepared,
+        words,
         choice,
-        known,
-        all,
         sizes,
+        &mut found,
         &mut after,
         &mut before,
         passes,
     );
-    both_hold(t, known.of, sizes, &after, &before)
+    if both_hold(t, of, &found, &after, &before) {
+        copy(&found, 4 * (of.functions + of.nodes), sizes);
+        return true;
+    }
+    false
 }
 
 // The call for one choice: says whether it is safe, and writes its sizes.
@@ -111,7 +115,7 @@ pub fn safety(t: &[u8], choice: &[u8], out: &mut [u32]) -> Answer
     ensures { λ r. ⌜ LeavesSizes (now (t .entry)) (now (choice .entry)) (now (out .entry)) r (now (out .exit)) ⌝ }
 {
     let admitted = admit(t, choice, out.len());
-    let known = admitted.known;
+    let seen = admitted.seen;
     let answer = admitted.answer;
     match answer {
         sizes::Answer::Refused(number, place) => Answer::Refused(number, place),
@@ -119,8 +123,9 @@ pub fn safety(t: &[u8], choice: &[u8], out: &mut [u32]) -> Answer
             let mut after = [0u32; 512];
             let mut before = [0u32; 512];
             let mut passes: u32 = 0;
+            let known = seen.known;
             find(t, choice, known, out, &mut after, &mut before, &mut passes);
-            if both_hold(t, known.of, out, &after, &before) {
+            if both_hold(t, seen.of, out, &after, &before) {
                 Answer::IsSafe
             } else {
                 Answer::IsUnsafe

@@ -1,37 +1,47 @@
-// Task tables written as text, for the programs that run worked-out cases.
+// Task tables written as text, for the programs that run worked-out cases and that count.
 //
-// A line of numbers is a run of records: kind, sort, a, b, c, and then, where they are given, how many
-// there are (1 if not) and whether a and b go up by one from each to the next. Such as
+// `! CALL` says which call the runs that follow are of, and `= NAME` begins a table. A line of numbers is a run of its
+// records: kind, sort, a, b, c, and then, where they are given, how many there are (1 if not) and whether a and b go up
+// by one from each to the next. Such as
 //
 //     1 1 0 4 40          an entry with first node 0, exit node 4 and a frame of 40
 //     2 0 0 0 0 512       512 plain nodes of function 0
 //     3 0 0 1 0 4 1 1     the edges 0-1, 1-2, 2-3, 3-4
 //
-// `+ N` adds N bytes, a line that begins with `#` says nothing, and `= NAME` ends a table.
+// `+ N` adds N bytes, and a line that begins with `#` says nothing.
 //
-// A program that takes choices too finds them in lines `? LENGTH BUFFER B0 B1 ..` after that one, each for a run of its
-// own on the table: a choice of LENGTH bytes, 0 where none is given, and a sizes buffer of BUFFER numbers. Such as
+// `? LENGTH BUFFER B0 B1 ..` is a run on the table: with a choice of LENGTH bytes, 0 where none is given, and a sizes
+// buffer of BUFFER numbers. Such as
 //
 //     ? 7 40 0 3 0 3      a choice of 7 bytes, 0 3 0 3 0 0 0, and a buffer of 40 numbers
 ghost use Prim.Native.Nat.{_+_, _-_, _≤_, min};
-ghost use mathlib.Core.Path.{_≡_};
 ghost use lib.ListN.{length};
 
-// The line that starts at `at`, without its line feed; empty past the end of the text.
-fn line(text: &[u8], at: usize) -> &[u8]
-    ensures { λ r. ⌜ length (now r) ≤ length (now (text .entry)) - at ⌝ }
+// Where the line at `at` ends: at its line feed, or at the end of the text.
+fn line_end(text: &[u8], at: usize) -> usize
+    ensures { λ r. ⌜ (at ≤ r) × (r ≤ at + (length (now (text .entry)) - at)) ⌝ }
 {
     let mut end: usize = at;
     while end < text.len() {
         if text[end] == b'\n' {
-            return &text[at..end];
+            return end;
         }
         end += 1;
     }
-    if text.len() < at {
-        return &text[..0];
-    }
-    &text[at..]
+    end
+}
+
+pub fn least(a: usize, b: usize) -> usize
+    ensures { λ r. ⌜ (r ≤ a) × (r ≤ b) ⌝ }
+{
+    if a < b { a } else { b }
+}
+
+// The bytes from `from` up to `to`, as far as there are any.
+pub fn part(bytes: &[u8], from: usize, to: usize) -> &[u8] {
+    let end = least(to, bytes.len());
+    let start = least(from, end);
+    &bytes[start..end]
 }
 
 fn digit(b: u8) -> usize
@@ -47,7 +57,7 @@ fn digit(b: u8) -> usize
 }
 
 // The decimal number `word` of a line, counted from 0: 0 where there is none, and modulo 65,536.
-pub fn number(line: &[u8], word: usize) -> usize
+fn number(line: &[u8], word: usize) -> usize
     ensures { λ r. ⌜ r ≤ 65535 ⌝ }
 {
     let mut value: usize = 0;
@@ -110,16 +120,8 @@ fn times(line: &[u8]) -> usize
     if given == 0 { 1 } else { given }
 }
 
-pub fn least(a: usize, b: usize) -> usize
-    ensures { λ r. ⌜ (r ≤ a) × (r ≤ b) ⌝ }
-{
-    if a < b { a } else { b }
-}
-
 // Writes the records of a line from byte `at` on, as far as they fit, and returns where the next one goes.
-pub fn put_run(t: &mut [u8], at: usize, line: &[u8]) -> usize
-    ensures { λ r. ⌜ r ≤ length (now (t .exit)) ⌝ }
-{
+fn put_run(t: &mut [u8], at: usize, line: &[u8]) -> usize {
     let count = times(line);
     let mut next: usize = least(at, t.len());
     let mut i: usize = 0;
@@ -134,77 +136,8 @@ pub fn put_run(t: &mut [u8], at: usize, line: &[u8]) -> usize
     next
 }
 
-// Does what a line says to the table in the first len bytes of t, and returns its new length.
-fn put_line(t: &mut [u8], len: usize, line: &[u8]) -> usize
-    ensures { λ r. ⌜ r ≤ length (now (t .exit)) ⌝ }
-{
-    if line.len() == 0 {
-        return least(len, t.len());
-    }
-    let mark = line[0];
-    if mark == b'#' {
-        return least(len, t.len());
-    }
-    if mark == b'+' {
-        return least(least(len, t.len()) + number(line, 2), t.len());
-    }
-    put_run(t, len, line)
-}
-
-// A table that a text describes.
-pub struct Described {
-    // Whether there is one.
-    pub found: bool,
-    // Where its name stands in the text.
-    pub from: usize,
-    pub to: usize,
-    // Its length.
-    pub len: usize,
-    // Where the text goes on.
-    pub next: usize,
-}
-
-// Writes the table that the lines from `at` on describe to the start of t.
-pub fn describe(text: &[u8], at: usize, t: &mut [u8]) -> Described
-    ensures { λ r. ⌜ (r .len ≤ length (now (t .exit))) × (r .from ≤ r .to) × (r .to ≤ length (now (text .entry))) ⌝ }
-    ensures { λ r. ⌜ min (at + 1) (length (now (text .entry))) ≤ r .next ⌝ }
-{
-    let mut len: usize = 0;
-    let mut next: usize = at;
-    while next < text.len() {
-        let words = line(text, next);
-        let start = next;
-        let end = start + words.len();
-        next = end + 1;
-        if text[start] == b'=' {
-            return Described {
-                found: true,
-                from: least(start + 2, end),
-                to: end,
-                len,
-                next,
-            };
-        }
-        len = put_line(t, len, words);
-    }
-    Described {
-        found: false,
-        from: 0,
-        to: 0,
-        len,
-        next,
-    }
-}
-
-// How many numbers the sizes buffer of a `?` line has.
-fn buffer(line: &[u8]) -> usize {
-    number(line, 3)
-}
-
 // Writes the choice of a `?` line to the start of out, as far as it fits, and returns its length.
-fn put_choice(out: &mut [u8], line: &[u8]) -> usize
-    ensures { λ r. ⌜ r ≤ length (now (out .exit)) ⌝ }
-{
+fn put_choice(out: &mut [u8], line: &[u8]) -> usize {
     let len = least(number(line, 2), out.len());
     let mut i: usize = 0;
     while i < len {
@@ -214,13 +147,19 @@ fn put_choice(out: &mut [u8], line: &[u8]) -> usize
     len
 }
 
-// A run that a text asks for: a table and a choice for it.
-pub struct Run {
-    // Whether there is one.
-    pub found: bool,
-    // Where the table's name stands in the text.
+// A part of the text.
+pub struct Words {
     pub from: usize,
     pub to: usize,
+}
+
+// What the lines up to some place of the text have said.
+pub struct Run {
+    // The first byte of the last line, which says what kind of line it is.
+    pub mark: u8,
+    // The words of the last `!` line, and the name of the last table.
+    pub call: Words,
+    pub name: Words,
     // The lengths of the table, the choice and the sizes buffer.
     pub table: usize,
     pub choice: usize,
@@ -229,14 +168,12 @@ pub struct Run {
     pub next: usize,
 }
 
-// What stands before the first run: no table, at the start of the text.
-pub fn before_runs() -> Run
-    ensures { λ r. ⌜ (r .from ≡ 0) × (r .to ≡ 0) × (r .table ≡ 0) × (r .next ≡ 0) ⌝ }
-{
+// What stands before the first line.
+pub fn before_lines() -> Run {
     Run {
-        found: false,
-        from: 0,
-        to: 0,
+        mark: 0,
+        call: Words { from: 0, to: 0 },
+        name: Words { from: 0, to: 0 },
         table: 0,
         choice: 0,
         buffer: 0,
@@ -244,38 +181,37 @@ pub fn before_runs() -> Run
     }
 }
 
-// The run after `last`: that of the next `?` line. Writes its choice to the start of choice, and a table that is described
-// before it to the start of t, which otherwise keeps the last run's.
-pub fn next_run(text: &[u8], last: Run, t: &mut [u8], choice: &mut [u8]) -> Run
-    requires { ⌜ (last .from ≤ last .to) × (last .to ≤ length (now text)) × (last .table ≤ length (now t)) ⌝ }
-    ensures { λ r. ⌜ (r .from ≤ r .to) × (r .to ≤ length (now (text .entry))) × (r .table ≤ length (now (t .exit))) ⌝ }
-    ensures { λ r. ⌜ r .choice ≤ length (now (choice .exit)) ⌝ }
+// Reads one line more. The table's bytes go to the start of t, and a choice to the start of choice.
+pub fn next_line(text: &[u8], last: Run, t: &mut [u8], choice: &mut [u8]) -> Run
     ensures { λ r. ⌜ min (last .next + 1) (length (now (text .entry))) ≤ r .next ⌝ }
 {
     let mut run = last;
-    while run.next < text.len() {
-        let at = run.next;
-        let mark = text[at];
-        let words = line(text, at);
-        let next = at + words.len() + 1;
-        if mark == b'?' {
-            run.found = true;
-            run.choice = put_choice(choice, words);
-            run.buffer = buffer(words);
-            run.next = next;
-            return run;
-        }
-        if (mark == b'#') | (mark == b'\n') {
-            run.next = next;
-        } else {
-            let table = describe(text, at, t);
-            run.from = table.from;
-            run.to = table.to;
-            run.table = table.len;
-            run.next = table.next;
-        }
+    let at = last.next;
+    if text.len() <= at {
+        return run;
     }
-    run.found = false;
-    run.choice = 0;
+    let end = line_end(text, at);
+    let line = part(text, at, end);
+    let words = Words {
+        from: at + 2,
+        to: end,
+    };
+    let mark = text[at];
+    run.mark = mark;
+    run.next = end + 1;
+    match mark {
+        b'#' | b'\n' => {}
+        b'!' => run.call = words,
+        b'=' => {
+            run.name = words;
+            run.table = 0;
+        }
+        b'+' => run.table = least(run.table, t.len()) + number(line, 2),
+        b'?' => {
+            run.choice = put_choice(choice, line);
+            run.buffer = number(line, 3);
+        }
+        _ => run.table = put_run(t, run.table, line),
+    }
     run
 }

@@ -13,6 +13,9 @@ pub value-le : (s : Size) → valueOf s ≤ unbounded
 value-le (Bytes n) = omega arith
 value-le Unbounded = omega arith
 
+pub cap-is : {x : ℕ} → x ≤ unbounded → cap x ≡ x
+cap-is h = omega arith
+
 -- the two cases of a number
 pub size-bytes : (n k : ℕ) → n ≡ k → k < unbounded → Bytes n ≡ sizeOf k
 unfolding sizeOf

@@ -13,18 +13,17 @@ use Rattle.table.specs.Record.{spawn}
 use Rattle.table.specs.Refusal.{Check, Refusal, over, refusedAt, refusal}
 use Rattle.table.specs.Checks.{checks, Accepted}
 use Rattle.table.specs.Program.{programOf}
-use Rattle.table.specs.Answer.{Ready}
 use Rattle.table.specs.Scan.{First}
 use Rattle.sync.specs.Words.{member}
-use Rattle.sync.specs.Answer.{Sets}
 use Rattle.table.proofs.Booleans.{or-false, and-true-left, and-true-right}
 use Rattle.table.proofs.Below.{first-some, first-none, earliest-passed}
 use Rattle.table.proofs.Refusals.{refusal-pass, refusal-here, refusal-none, not-applied, refusal-over-none, refusal-over-some}
 use Rattle.rules.specs.Choice.{unmerged, unguarded, ChoiceFor}
 use Rattle.rules.specs.Rules.{entries}
-use Rattle.sizes.specs.Answer.{Found}
 use Rattle.sizes.specs.Call.{Call, choiceOf, wrongLength, outside, tooShort, sizesRow, choiceChecks, callChecks, Result, done, refused, resultFor, tableResult, result, resultOf, Leaves}
-use Rattle.sizes.specs.Known.{AdmittedFor}
+use Rattle.sizes.specs.Known.{Looked, SeenFor, AdmittedFor}
+use Rattle.sizes.specs.Trials.{FoundFor}
+use Rattle.sizes.specs.declared.admit.Seen.{Seen}
 use Rattle.sizes.specs.declared.Answer.{Answer}
 use Rattle.sizes.specs.declared.Answer.the-variants.{Done, Refused}
 use Rattle.rules.specs.declared.Known.{Known}
@@ -89,9 +88,9 @@ module _ {X : Type 0} (table : X → List ℕ) (buffer : X → ℕ) (x : X) wher
   sizes-fit cs m e = ltb-false _ _ (not-applied (tooShort (table x) (buffer x)) (entries (programOf (table x))) (refusal-none x cs e (sizesRow table buffer) m))
 
 -- what is known of a table that is accepted is known whatever else the call is refused for
-pub still-known : (t : List ℕ) (answer : Answer) (known : Known) → AdmittedFor t Done known → AdmittedFor t answer known
-still-known t Done known k = k
-still-known t (Refused n p) known k = tt
+pub still-known : (t : List ℕ) (answer : Answer) (seen : Seen) → AdmittedFor t Done seen → AdmittedFor t answer seen
+still-known t Done seen k = k
+still-known t (Refused n p) seen k = tt
 
 -- ---- the checks of a call with a choice
 
@@ -196,18 +195,16 @@ done-valid x e =
     }
 
 -- what an admitted call has: nothing is refused, and its table is known
-pub record Admission (x : Call) (known : Known) : Type 0 where
+pub record Admission (x : Call) (seen : Seen) : Type 0 where
   pub done-is : done ≡ result x
   pub valid : Valid x
-  pub ready : Ready (x .table) (known .of)
-  pub sets : Sets (programOf (x .table)) (known .synchronising) (known .reached)
+  pub known : SeenFor (x .table) seen
 
-pub admission : (x : Call) (answer : Answer) (known : Known) → answer ≡ Done → resultOf answer ≡ result x → AdmittedFor (x .table) answer known → Admission x known
-admission x answer known e r a =
+pub admission : (x : Call) (answer : Answer) (seen : Seen) → answer ≡ Done → resultOf answer ≡ result x → AdmittedFor (x .table) answer seen → Admission x seen
+admission x answer seen e r a =
     let d : done ≡ result x = rw e at r in
-    let k : AdmittedFor (x .table) Done known = rw e at a in
-    record { done-is = d; valid = done-valid x d; ready = k .0; sets = k .1 }
+    record { done-is = d; valid = done-valid x d; known = rw e at a }
 
 -- what is found and written is what the call leaves
-pub found-leaves : (t choice : List ℕ) (known : Known) {old new after before : List ℕ} → Sets (programOf t) (known .synchronising) (known .reached) → Found (programOf t) (member (known .synchronising)) (member (known .reached)) (choiceOf choice) old new after before → Leaves t choice old Done new
-found-leaves t choice known sets f = (f .sizes, (member (known .synchronising), sets .set, f .sizes-of .least), f .written)
+pub found-leaves : (t choice : List ℕ) (known : Known) {old new after before : List ℕ} → Looked t known → FoundFor t known (choiceOf choice) old new after before → Leaves t choice old Done new
+found-leaves t choice known looked f = (f .sizes, (member (known .synchronising), looked .sets .set, f .sizes-of .least), f .written)

@@ -1,93 +1,76 @@
--- What going round the rules of a table and a choice comes to: the least sizes, and the largest sums.
+-- What the least solution of a table's rules comes to: the least sizes, and the largest sums.
 use Prim.Native.Nat.{ℕ, _+_, _*_, _<_, _≤_}
-use mathlib.Core.Path.{_≡_, sym, ap, subst}
-use mathlib.Core.Bool.{cond}
+use mathlib.Core.Path.{_≡_, sym, ap, _∙_, subst}
+use mathlib.Core.Bool.{Bool}
 use mathlib.Core.List.{List}
 use native.Mathlib.Omega.{arith}
 use native.Mathlib.Decide.{decLt}
-use lib.Dec.{ltb}
 use lib.ListN.{length}
-use borrow.Author.Tests.{lt-ltb, le-ltb}
-use Rattle.table.specs.Answer.{Ready}
 use Rattle.table.specs.Program.{programOf}
 use Rattle.table.proofs.Laws.{well-formed}
-use Rattle.table.proofs.Ready.{functions-are, nodes-are}
+use Rattle.table.proofs.Ready.{nodes-are, few-nodes}
 use Rattle.sync.specs.Words.{member}
-use Rattle.sync.specs.Answer.{Sets}
-use Rattle.rules.specs.Choice.{at}
+use Rattle.size.specs.Size.{unbounded}
+use Rattle.size.specs.Numbers.{at, Written}
+use Rattle.solver.specs.Values.{valueAt, startsFrom, Settles}
+use Rattle.solver.proofs.Rises.{der-le}
+use Rattle.solver.proofs.Values.{value-size, value-after, value-before, starts-taken, starts-zero}
 use Rattle.rules.specs.Rules.{entries}
-use Rattle.sizes.specs.Answer.{SizesOf, Found}
 use Rattle.rules.specs.Sums.{LargestAfter, LargestBefore}
-use Rattle.rules.specs.System.{size, none, Derived}
-use Rattle.rules.specs.Causes.{Given, DerOf}
-use Rattle.sizes.specs.Values.{valueAt, startsFrom, Starts, SolvedFor, Settles}
-use Rattle.rules.specs.Listed.{given, Lists}
+use Rattle.rules.specs.System.{Entry, size, along, Given, formsOf, none, Solved}
+use Rattle.listed.specs.Listed.{given, Lists}
 use Rattle.rules.specs.declared.Known.{Known}
-use Rattle.rules.proofs.Bounds.{none-past}
-use Rattle.rules.proofs.Rises.{der-le}
-use Rattle.sizes.proofs.Laws.{written-same}
+use Rattle.rules.specs.declared.sums.Sum.the-variants.{After, Before}
+use Rattle.listed.proofs.Worded.{seen, seen-size, seen-along, words-solve}
 use Rattle.rules.proofs.Solved.{solved-least, solved-after, solved-before}
+use Rattle.sizes.specs.Known.{Looked}
+use Rattle.sizes.proofs.Laws.{entries-few}
+use Rattle.sizes.specs.Trials.{DerivedFor, FoundFor}
 
--- the numbers started from, and the zeros behind them
-module _ (taken : ℕ) (numbers : List ℕ) (x : ℕ) where
-  pub starts-taken : x < taken → startsFrom taken numbers x ≡ at numbers x
-  unfolding startsFrom
-  starts-taken h = ap (λ b. cond b (at numbers x) 0) (lt-ltb x taken h)
-
-  pub starts-zero : taken ≤ x → startsFrom taken numbers x ≡ 0
-  unfolding startsFrom
-  starts-zero h = ap (λ b. cond b (at numbers x) 0) (le-ltb x taken h)
-
-module _ (t choice : List ℕ) (known : Known) (ready : Ready t (known .of)) where
+module _ (t choice : List ℕ) (known : Known) (looked : Looked t known) where
   abbrev S : Given
   S = given t choice known
 
-  abbrev DerivedOf : (ℕ → ℕ) → Type 0
-  DerivedOf = Derived (S .program) (S .synchronising) (S .reached) (S .choice)
+  -- what is derived can be started from
+  pub starts-sized : (taken : ℕ) (numbers : List ℕ) → DerivedFor t known (at choice) (startsFrom taken numbers) → (x : ℕ) → x < taken → at numbers x ≤ unbounded
+  starts-sized taken numbers d x h = omega (arith, starts-taken taken numbers x h, der-le (formsOf S) (d .each x))
 
-  pub count-is : 4 * (known .of .functions + known .of .nodes) ≡ entries (programOf t)
-  count-is = omega (arith, functions-are t (known .of) ready, nodes-are t (known .of) ready)
+  module _ (taken : ℕ) (numbers : List ℕ) {rules : List ℕ} {count : ℕ} {sizes oldAfter after oldBefore before : List ℕ} (s : Settles rules count (startsFrom taken numbers) (known .of .nodes) sizes oldAfter after oldBefore before) (few : taken ≤ entries (programOf t)) (lists : Lists S rules count) (d : DerivedFor t known (at choice) (startsFrom taken numbers)) where
+    abbrev v : Entry → ℕ
+    v = seen (valueAt (s .values))
 
-  -- zeros can be started from, and what is derived
-  pub derived-none : (numbers : List ℕ) → DerivedOf (startsFrom 0 numbers)
-  derived-none numbers = record { each = λ x. subst (DerOf S (size x)) (sym (starts-zero 0 numbers x (omega arith))) none }
+    solved : Solved (programOf t) (member (known .synchronising)) (member (known .reached)) (at choice) v
+    solved = words-solve S lists d (λ x h. starts-zero taken numbers x (omega (arith, entries-few (looked .ready)))) (s .solved)
 
-  pub derived-taken : (taken : ℕ) (numbers : List ℕ) → DerivedOf (at numbers) → DerivedOf (startsFrom taken numbers)
-  derived-taken taken numbers d = record { each = λ x. go x (decLt x taken) }
-    where
-      go : (x : ℕ) → Dec (x < taken) → DerOf S (size x) (startsFrom taken numbers x)
-      go x (yes h) = subst (DerOf S (size x)) (sym (starts-taken taken numbers x h)) (d .each x)
-      go x (no h) = subst (DerOf S (size x)) (sym (starts-zero taken numbers x (omega arith))) none
+    size-is : (x : ℕ) → x < entries (programOf t) → at sizes x ≡ v (size x)
+    size-is x h = let l : x < 2304 = omega (arith, entries-few (looked .ready)) in ap (λ (m : List ℕ). at m x) (sym (s .sizes-are)) ∙ sym (value-size (s .values) x l) ∙ sym (seen-size (valueAt (s .values)) x l)
 
-  pub starts : (taken : ℕ) (numbers : List ℕ) → entries (programOf t) ≤ length numbers → taken ≤ entries (programOf t) → DerivedOf (startsFrom taken numbers) → Starts (known .of) taken numbers
-  starts taken numbers l few d = record { fits = omega (arith, count-is); few = omega (arith, count-is); sized = λ x h. omega (arith, starts-taken taken numbers x h, der-le S (d .each x)) }
-
-  module _ (sets : Sets (programOf t) (known .synchronising) (known .reached)) {rules : List ℕ} {count : ℕ} {from : ℕ → ℕ} {old new after before : List ℕ} (s : Settles rules count (known .of) from old new after before) (lists : Lists S rules count) (d : DerivedOf from) where
-    solved : SolvedFor S (known .of) old new after before
-    solved = s .settles S lists d
-
-    pub found : Found (programOf t) (member (known .synchronising)) (member (known .reached)) (at choice) old new after before
-    found =
+    pub found : {written : ℕ} → written ≡ entries (programOf t) → {old new : List ℕ} → Written written (at sizes) old new → FoundFor t known (at choice) old new after before
+    found e {old} {new} q =
+        let w : Written (entries (programOf t)) (at sizes) old new = rw e at q in
         let g = programOf t in
         let set = member (known .synchronising) in
         let reached = member (known .reached) in
-        let w = well-formed t (ready .accepted-is) in
-        let z = at (solved .values .sizes) in
-        let v = valueAt (solved .values) in
+        let f = well-formed t (looked .ready .accepted-is) in
         record {
-          sizes = z;
+          sizes = λ x. v (size x);
           sizes-of = record {
-            least = solved-least g set reached (at choice) w (sets .set) (sets .reach) v (solved .solved);
-            after-is = λ n h. subst (LargestAfter g set z n) (solved .after-are n (omega (arith, nodes-are t (known .of) ready))) (solved-after g set reached (at choice) w (sets .set) (sets .reach) v (solved .solved) n h);
-            before-is = λ n h. subst (LargestBefore g set z n) (solved .before-are n (omega (arith, nodes-are t (known .of) ready))) (solved-before g set reached (at choice) w (sets .set) (sets .reach) v (solved .solved) n h);
+            least = solved-least g set reached (at choice) f (looked .sets .set) (looked .sets .reach) v solved;
+            after-is = λ n h. subst (LargestAfter g set (λ x. v (size x)) n) (after-is n h) (solved-after g set reached (at choice) f (looked .sets .set) (looked .sets .reach) v solved n h);
+            before-is = λ n h. subst (LargestBefore g set (λ x. v (size x)) n) (before-is n h) (solved-before g set reached (at choice) f (looked .sets .set) (looked .sets .reach) v solved n h);
           };
-          derived = record { each = λ x. solved .solved .derived (size x) };
-          written = rw count-is at (solved .sizes-are);
+          derived = record { each = λ x. solved .derived (size x) };
+          written = record { long = w .long; written = λ x h. w .written x h ∙ size-is x h; tail = w .tail };
         }
+      where
+        node-low : (n : ℕ) → n < programOf t .nodes → n < known .of .nodes
+        node-low n h = omega (arith, nodes-are t (known .of) (looked .ready))
 
-  -- where the numbers were derived before, they are the sizes then
-  pub left-there : {old new after before : List ℕ} → DerivedOf (at old) → Found (programOf t) (member (known .synchronising)) (member (known .reached)) (at choice) old new after before → SizesOf (programOf t) (member (known .synchronising)) (at choice) (at new) (at after) (at before) × DerivedOf (at new)
-  left-there {old} {new} {after} {before} d f =
-      let w = well-formed t (ready .accepted-is) in
-      let same = written-same (S .program) (S .synchronising) (S .reached) w (S .choice) (f .sizes) (f .derived) (f .written) (λ x h. none-past (S .program) w (S .synchronising) (S .reached) (S .choice) (d .each x) h) in
-      (subst (λ (z : ℕ → ℕ). SizesOf (programOf t) (member (known .synchronising)) (at choice) z (at after) (at before)) (sym same) (f .sizes-of), subst DerivedOf (sym same) (f .derived))
+        sum-low : (n : ℕ) → n < programOf t .nodes → n < 512
+        sum-low n h = omega (arith, node-low n h, few-nodes t (known .of) (looked .ready))
+
+        after-is : (n : ℕ) → n < programOf t .nodes → v (along After n) ≡ at after n
+        after-is n h = seen-along (valueAt (s .values)) After n (sum-low n h) ∙ value-after (s .values) (2304 + n) (omega arith) (omega (arith, sum-low n h)) ∙ ap (at (s .values .after)) (omega arith) ∙ sym (s .after-are .written n (node-low n h))
+
+        before-is : (n : ℕ) → n < programOf t .nodes → v (along Before n) ≡ at before n
+        before-is n h = seen-along (valueAt (s .values)) Before n (sum-low n h) ∙ value-before (s .values) (2816 + n) (omega arith) (omega (arith, sum-low n h)) ∙ ap (at (s .values .before)) (omega arith) ∙ sym (s .before-are .written n (node-low n h))

@@ -1,29 +1,23 @@
--- What the crates above may use of the rules: at most one table is least, a larger choice has the larger sizes, and its rules derive what a smaller one's do.
-use Prim.Native.Nat.{ℕ, _<_, _≤_}
+-- What the crates above may use of the rules: at most one table is least, a larger choice has the larger sizes, and its rules derive what a
+-- smaller one's do; and of the number of sizes.
+use Prim.Native.Nat.{ℕ, _+_, _*_, _<_, _≤_}
 use mathlib.Core.Path.{_≡_, refl, sym, ap, _∙_, subst, fun-ext}
 use mathlib.Core.Bool.{Bool}
 use mathlib.Core.List.{List}
 use native.Mathlib.Omega.{arith}
-use native.Mathlib.Decide.{decLt}
-use lib.ListN.{replicate}
+use Rattle.table.specs.Answer.{Ready}
 use Rattle.table.specs.Program.{Program, programOf}
-use Rattle.table.specs.WellFormed.{WellFormed}
+use Rattle.table.specs.declared.Counts.{Counts}
 use Rattle.table.specs.SameButEdges.{SameButEdges}
 use Rattle.table.proofs.Laws.{same-program}
+use Rattle.table.proofs.Ready.{functions-are, nodes-are, few-functions, few-nodes}
 use Rattle.sync.specs.Synchronising.{Synchronising}
 use Rattle.sync.proofs.Laws.{synchronising-unique}
 use Rattle.size.specs.Size.{unbounded}
-use Rattle.rules.specs.Choice.{at}
+use Rattle.rules.specs.Choice.{AtMost}
 use Rattle.rules.specs.Rules.{entries, Meets, Least, LeastSizes}
 use Rattle.rules.specs.System.{Entry, Form, Rule, start, step-on, end, total-node, total-edge, target-of, formOf, gives, Der, none, rule, Derived}
-use Rattle.sizes.proofs.Maps.{at-zeros}
-use Rattle.rules.proofs.Bounds.{none-past}
 use Rattle.rules.proofs.Taking.{takes-larger}
-use Rattle.sizes.specs.Answer.{Written}
-
--- One choice is at or below another, node by node.
-abbrev pub AtMost : Program → (ℕ → ℕ) → (ℕ → ℕ) → Type 0
-AtMost g c d = (n : ℕ) → n < g .nodes → c n ≤ d n
 
 module _ (g : Program) where
   module _ (set : ℕ → Bool) where
@@ -114,14 +108,14 @@ module _ (g : Program) (set reached : ℕ → Bool) where
   pub derived-larger : (c d s : ℕ → ℕ) → AtMost g c d → Derived g set reached c s → Derived g set reached d s
   derived-larger c d s b h = record { each = λ x. der-larger c d b (h .each x) }
 
-  -- zeros are derived for every choice
-  pub derived-zeros : (c : ℕ → ℕ) (l : List ℕ) (n : ℕ) → l ≡ replicate n 0 → Derived g set reached c (at l)
-  derived-zeros c l n e = record { each = λ x. rw (ap (λ (m : List ℕ). at m x) e ∙ at-zeros n x) none }
+-- ---- how many sizes a table has
 
-  -- derived sizes that are written over numbers which are zeros past the entries are what stands there then
-  pub written-same : WellFormed g → (c s : ℕ → ℕ) {old new : List ℕ} → Derived g set reached c s → Written (entries g) s old new → ((x : ℕ) → entries g ≤ x → at old x ≡ 0) → at new ≡ s
-  written-same f c s {old} {new} d w z = fun-ext (λ x. go x (decLt x (entries g)))
-    where
-      go : (x : ℕ) → Dec (x < entries g) → at new x ≡ s x
-      go x (yes h) = w .written x h
-      go x (no h) = w .tail x (omega arith) ∙ z x (omega arith) ∙ sym (none-past g f set reached c (d .each x) (omega arith))
+module _ {t : List ℕ} {c : Counts} (ready : Ready t c) where
+  pub entries-are : 4 * (c .functions + c .nodes) ≡ entries (programOf t)
+  entries-are = omega (arith, functions-are t c ready, nodes-are t c ready)
+
+  pub entries-few : entries (programOf t) ≤ 2304
+  entries-few = omega (arith, entries-are, few-functions t c ready, few-nodes t c ready)
+
+  pub counts-few : c .functions + c .nodes ≤ 576
+  counts-few = omega (arith, few-functions t c ready, few-nodes t c ready)

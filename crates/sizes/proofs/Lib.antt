@@ -1,8 +1,6 @@
--- For the crates above: laws of the rules, of calls, and of lists that are written.
+-- For the crates above: laws of the rules, of calls, and of trials.
 pub mod Laws
 pub mod Calls
-pub mod Maps
-pub mod Writing
+pub mod Trying
 -- How the promises come about.
-mod Turns
 mod Closing

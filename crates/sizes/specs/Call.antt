@@ -13,7 +13,7 @@ use Rattle.table.specs.Checks.{checks}
 use Rattle.table.specs.Program.{programOf}
 use Rattle.rules.specs.Choice.{unmerged, unguarded}
 use Rattle.rules.specs.Rules.{entries, LeastSizes}
-use Rattle.sizes.specs.Answer.{Written}
+use Rattle.size.specs.Numbers.{Written}
 use Rattle.sizes.specs.declared.Answer.{Answer}
 use Rattle.sizes.specs.declared.Answer.the-variants.{Done, Refused}
 

@@ -2,5 +2,5 @@
 pub mod Answer
 pub mod Call
 -- What only helps proofs.
-pub mod Values
 pub mod Known
+pub mod Trials

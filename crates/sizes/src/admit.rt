@@ -5,7 +5,6 @@ use rules::targets::chosen;
 use sync::synchronising;
 use table::Checked;
 use table::Counts;
-use table::program;
 ghost use mathlib.Core.Path.{_≡_};
 ghost use Prim.Native.Nat.{_<_};
 ghost use Rattle.table.specs.Scan.{First};
@@ -58,16 +57,22 @@ fn judge(t: &[u8], of: Counts, choice: &[u8], buffer: usize) -> Answer
     Answer::Done
 }
 
+// What is known of a table: its counts, and what only the crates below look into.
+pub struct Seen {
+    pub of: Counts,
+    pub known: Known,
+}
+
 // A call's refusal, if there is one, and what is known of its table.
 pub struct Admitted {
     pub answer: Answer,
-    pub known: Known,
+    pub seen: Seen,
 }
 
 // Looks at a table: its refusal, if there is one, and what is known of it.
 pub fn look(t: &[u8]) -> Admitted
     ensures { λ r. ⌜ resultOf (r .answer) ≡ tableResult (now (t .entry)) ⌝ }
-    ensures { λ r. ⌜ AdmittedFor (now (t .entry)) (r .answer) (r .known) ⌝ }
+    ensures { λ r. ⌜ AdmittedFor (now (t .entry)) (r .answer) (r .seen) ⌝ }
 {
     let found = synchronising(t);
     let checked = found.checked;
@@ -76,40 +81,49 @@ pub fn look(t: &[u8]) -> Admitted
     match checked {
         Checked::Accepted(of) => Admitted {
             answer: Answer::Done,
-            known: Known {
+            seen: Seen {
                 of,
-                synchronising: set,
-                reached,
-            },
-        },
-        Checked::Refused(number, place) => Admitted {
-            answer: Answer::Refused(number, place),
-            known: Known {
-                of: Counts {
-                    functions: 0,
-                    nodes: 0,
-                    edges: 0,
+                known: Known {
+                    of,
+                    synchronising: set,
+                    reached,
                 },
-                synchronising: set,
-                reached,
             },
         },
+        Checked::Refused(number, place) => {
+            let of = Counts {
+                functions: 0,
+                nodes: 0,
+                edges: 0,
+            };
+            Admitted {
+                answer: Answer::Refused(number, place),
+                seen: Seen {
+                    of,
+                    known: Known {
+                        of,
+                        synchronising: set,
+                        reached,
+                    },
+                },
+            }
+        }
     }
 }
 
 // Judges a call with a sizes buffer of so many numbers.
 pub fn admit(t: &[u8], choice: &[u8], buffer: usize) -> Admitted
     ensures { λ r. ⌜ resultOf (r .answer) ≡ result (call (now (t .entry)) (now (choice .entry)) buffer) ⌝ }
-    ensures { λ r. ⌜ AdmittedFor (now (t .entry)) (r .answer) (r .known) ⌝ }
+    ensures { λ r. ⌜ AdmittedFor (now (t .entry)) (r .answer) (r .seen) ⌝ }
 {
-    let seen = look(t);
-    let known = seen.known;
-    let answer = seen.answer;
+    let looked = look(t);
+    let seen = looked.seen;
+    let answer = looked.answer;
     match answer {
         Answer::Done => Admitted {
-            answer: judge(t, known.of, choice, buffer),
-            known,
+            answer: judge(t, seen.of, choice, buffer),
+            seen,
         },
-        Answer::Refused(_, _) => seen,
+        Answer::Refused(_, _) => looked,
     }
 }

@@ -1,68 +1,66 @@
 // The least sizes of a choice.
-use crate::solve::solve;
+use listed::list::list_rules;
+use listed::list::room;
 use rules::Known;
-use rules::force::in_force;
-use rules::list::list_rules;
-use rules::list::room;
-ghost use mathlib.Core.Path.{_≡_};
+use size::Size;
+use solver::solve;
+ghost use mathlib.Core.List.{map};
 ghost use Prim.Native.Nat.{_≤_};
 ghost use lib.ListN.{length};
-ghost use Rattle.table.specs.Answer.{Ready};
 ghost use Rattle.table.specs.Program.{programOf};
-ghost use Rattle.sync.specs.Words.{member};
-ghost use Rattle.sync.specs.Answer.{Sets};
-ghost use Rattle.rules.specs.Choice.{at};
+ghost use Rattle.size.specs.Size.{valueOf};
+ghost use Rattle.size.specs.Numbers.{at, Written};
+ghost use Rattle.solver.specs.Words.{Named};
+ghost use Rattle.solver.specs.Values.{startsFrom};
 ghost use Rattle.rules.specs.Rules.{entries};
-ghost use Rattle.rules.specs.Listed.{given, Named, Lists, Widest};
-ghost use Rattle.rules.specs.System.{Derived};
-ghost use Rattle.sizes.specs.Answer.{SizesOf, Written, Found};
-ghost use Rattle.sizes.specs.Values.{startsFrom};
+ghost use Rattle.listed.specs.Listed.{given, Lists};
+ghost use Rattle.sizes.specs.Known.{Looked};
+ghost use Rattle.sizes.specs.Trials.{DerivedFor, FoundFor};
 
-// Writes the first of some numbers.
-pub fn copy(numbers: &[u32], count: usize, out: &mut [u32])
-    requires { ⌜ (count ≤ length (now numbers)) × (count ≤ length (now out)) ⌝ }
-    ensures { λ _. ⌜ Written count (at (now (numbers .entry))) (now (out .entry)) (now (out .exit)) ⌝ }
+// Writes the first sizes as numbers, at the buffer's edge.
+fn write_sizes(sizes: [Size; 2304], count: usize, out: &mut [u32])
+    requires { ⌜ (count ≤ 2304) × (count ≤ length (now out)) ⌝ }
+    ensures { λ _. ⌜ Written count (at (map valueOf sizes)) (now (out .entry)) (now (out .exit)) ⌝ }
 {
     let mut i: usize = 0;
     while i < count {
-        out[i] = numbers[i];
+        let size = sizes[i];
+        out[i] = size.number();
         i += 1;
     }
 }
 
 // The least sizes of a choice whose rules are listed, from sizes that they derive: the first of the numbers there are, and zeros.
-fn settle(
+pub(crate) fn settle(
     t: &[u8],
     choice: &[u8],
     known: Known,
     rules: &[u64],
     count: usize,
     taken: usize,
-    numbers: &mut [u32],
+    numbers: &[u32],
+    out: &mut [u32],
     after: &mut [u32],
     before: &mut [u32],
     passes: &mut u32,
 )
-    requires { ⌜ Ready (now t) (known .of) × Sets (programOf (now t)) (known .synchronising) (known .reached) ⌝ }
+    requires { ⌜ Looked (now t) known ⌝ }
     requires { ⌜ (count ≤ length (now rules)) × (count ≤ 8384) × Named (now rules) count × Lists (given (now t) (now choice) known) (now rules) count ⌝ }
-    requires { ⌜ (entries (programOf (now t)) ≤ length (now numbers)) × (taken ≤ entries (programOf (now t))) × Derived (programOf (now t)) (member (known .synchronising)) (member (known .reached)) (at (now choice)) (startsFrom taken (now numbers)) ⌝ }
-    requires { ⌜ (512 ≤ length (now after)) × (512 ≤ length (now before)) ⌝ }
-    ensures { λ _. ⌜ Found (programOf (now (t .entry))) (member (known .synchronising)) (member (known .reached)) (at (now (choice .entry))) (now (numbers .entry)) (now (numbers .exit)) (now (after .exit)) (now (before .exit)) ⌝ }
+    requires { ⌜ (taken ≤ entries (programOf (now t))) × (taken ≤ length (now numbers)) × DerivedFor (now t) known (at (now choice)) (startsFrom taken (now numbers)) ⌝ }
+    requires { ⌜ (entries (programOf (now t)) ≤ length (now out)) × (512 ≤ length (now after)) × (512 ≤ length (now before)) ⌝ }
+    ensures { λ _. ⌜ FoundFor (now (t .entry)) known (at (now (choice .entry))) (now (out .entry)) (now (out .exit)) (now (after .exit)) (now (before .exit)) ⌝ }
 {
-    let mut causes = [65535u16; 3840];
-    let mut stamps = [0u16; 3841];
-    solve(
+    let sizes = solve(
         rules,
         count,
-        known.of,
+        known.of.nodes,
         taken,
         numbers,
-        &mut causes,
-        &mut stamps,
         after,
         before,
         passes,
     );
+    write_sizes(sizes, 4 * (known.of.functions + known.of.nodes), out);
 }
 
 // The least sizes of a choice, from zeros, written over the first numbers. Beside them it writes the sums of nodes that safety asks for,
@@ -72,15 +70,16 @@ pub fn find(
     t: &[u8],
     choice: &[u8],
     known: Known,
-    numbers: &mut [u32],
+    out: &mut [u32],
     after: &mut [u32],
     before: &mut [u32],
     passes: &mut u32,
 )
-    requires { ⌜ Ready (now t) (known .of) × Sets (programOf (now t)) (known .synchronising) (known .reached) ⌝ }
-    requires { ⌜ (entries (programOf (now t)) ≤ length (now numbers)) × (512 ≤ length (now after)) × (512 ≤ length (now before)) ⌝ }
-    ensures { λ _. ⌜ Found (programOf (now (t .entry))) (member (known .synchronising)) (member (known .reached)) (at (now (choice .entry))) (now (numbers .entry)) (now (numbers .exit)) (now (after .exit)) (now (before .exit)) ⌝ }
+    requires { ⌜ Looked (now t) known ⌝ }
+    requires { ⌜ (entries (programOf (now t)) ≤ length (now out)) × (512 ≤ length (now after)) × (512 ≤ length (now before)) ⌝ }
+    ensures { λ _. ⌜ FoundFor (now (t .entry)) known (at (now (choice .entry))) (now (out .entry)) (now (out .exit)) (now (after .exit)) (now (before .exit)) ⌝ }
 {
+    let none = [0u32; 1];
     if room(known.of) <= 256 {
         let mut rules = [0u64; 256];
         let count = list_rules(t, choice, known, &mut rules);
@@ -91,7 +90,8 @@ pub fn find(
             &rules,
             count,
             0,
-            numbers,
+            &none,
+            out,
             after,
             before,
             passes,
@@ -106,58 +106,8 @@ pub fn find(
             &rules,
             count,
             0,
-            numbers,
-            after,
-            before,
-            passes,
-        );
-    }
-}
-
-// The same, from sizes that the choice's rules derive, those of a smaller choice, and with the rules of the widest choice at hand.
-pub fn find_from(
-    t: &[u8],
-    choice: &[u8],
-    known: Known,
-    all: &[u64],
-    numbers: &mut [u32],
-    after: &mut [u32],
-    before: &mut [u32],
-    passes: &mut u32,
-)
-    requires { ⌜ Ready (now t) (known .of) × Sets (programOf (now t)) (known .synchronising) (known .reached) × Widest (now t) known (now all) ⌝ }
-    requires { ⌜ (length (now numbers) ≡ 2304) × Derived (programOf (now t)) (member (known .synchronising)) (member (known .reached)) (at (now choice)) (at (now numbers)) ⌝ }
-    requires { ⌜ (512 ≤ length (now after)) × (512 ≤ length (now before)) ⌝ }
-    ensures { λ _. ⌜ SizesOf (programOf (now (t .entry))) (member (known .synchronising)) (at (now (choice .entry))) (at (now (numbers .exit))) (at (now (after .exit))) (at (now (before .exit))) ⌝ }
-    ensures { λ _. ⌜ Derived (programOf (now (t .entry))) (member (known .synchronising)) (member (known .reached)) (at (now (choice .entry))) (at (now (numbers .exit))) ⌝ }
-{
-    let taken = 4 * (known.of.functions + known.of.nodes);
-    if all.len() <= 256 {
-        let mut rules = [0u64; 256];
-        let count = in_force(t, choice, known, all, &mut rules);
-        settle(
-            t,
-            choice,
-            known,
-            &rules,
-            count,
-            taken,
-            numbers,
-            after,
-            before,
-            passes,
-        );
-    } else {
-        let mut rules = [0u64; 8384];
-        let count = in_force(t, choice, known, all, &mut rules);
-        settle(
-            t,
-            choice,
-            known,
-            &rules,
-            count,
-            taken,
-            numbers,
+            &none,
+            out,
             after,
             before,
             passes,

@@ -1,7 +1,6 @@
 // The sets that the work starts from.
 use crate::words::with;
 use table::Counts;
-use table::program;
 ghost use mathlib.Core.Path.{_≡_};
 ghost use lib.Dec.{eqb};
 ghost use lib.ListN.{replicate};

@@ -2,9 +2,9 @@
 use crate::words::has;
 use crate::words::with;
 use order::sure::get;
+use program::edge_from;
+use program::edge_to;
 use table::Counts;
-use table::program::edge_from;
-use table::program::edge_to;
 ghost use mathlib.Core.Path.{_≡_};
 ghost use mathlib.Core.Bool.{true};
 ghost use mathlib.Core.Logic.{_↔_};

@@ -10,3 +10,4 @@ mod Fields
 mod Accepted
 mod SameButEdges
 mod Answer
+mod Counting

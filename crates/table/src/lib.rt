@@ -1,6 +1,5 @@
 // Task tables: reading and checking them. Document 01, "The task table" and "Refused tables".
 mod checks;
-pub mod program;
 pub mod record;
 mod scan;
 

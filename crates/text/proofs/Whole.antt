@@ -11,7 +11,7 @@ use Rattle.table.specs.Answer.{Ready}
 use Rattle.table.specs.Program.{Program, programOf}
 use Rattle.table.specs.declared.Counts.{Counts}
 use Rattle.table.proofs.Ready.{few-functions, few-nodes, functions-are, nodes-are}
-use Rattle.rules.specs.Choice.{at}
+use Rattle.size.specs.Numbers.{at}
 use Rattle.rules.specs.Rules.{entries}
 use Rattle.sizes.specs.Call.{resultOf}
 use Rattle.sizes.specs.declared.Answer.{Answer}

@@ -2,12 +2,11 @@
 use crate::lines::put_function;
 use crate::lines::put_spawn;
 use table::Counts;
-use table::program;
 ghost use Prim.Native.Nat.{_+_, _*_, _<_, _≤_};
 ghost use lib.ListN.{length, getD};
 ghost use Rattle.table.specs.Answer.{Ready};
 ghost use Rattle.table.specs.Program.{programOf};
-ghost use Rattle.rules.specs.Choice.{at};
+ghost use Rattle.size.specs.Numbers.{at};
 ghost use Rattle.text.specs.Append.{Appended};
 ghost use Rattle.text.specs.Listing.{joined, functionLine, ofNodeText};
 

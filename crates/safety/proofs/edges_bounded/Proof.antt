@@ -3,7 +3,7 @@ use Prim.Native.Nat.{_-_, _≤_}
 use mathlib.Core.Path.{sym, ap, _∙_}
 use native.Mathlib.Omega.{arith}
 use Rattle.table.proofs.Ready.{few-nodes}
-use Rattle.rules.specs.Choice.{at}
+use Rattle.size.specs.Numbers.{at}
 use Rattle.safety.proofs.Testing.{tells-yes, tells-no, EdgesBelow, edges-none, edges-more, edges-all, edge-both}
 use Rattle.safety.proofs.edges_bounded.Statement.{statement}
 use Rattle.safety.proofs.edges_bounded.Tie as tie
@@ -40,9 +40,10 @@ shared-slice-read-if3 c = search needs
 
 returns : tie.Need-returns Inv-loop μ-loop
 returns c =
+    let p = c .before .before .before .before .before .before .before .before .before .before .before .before .pre in
     let a = c .before .before .before .before .before .before .before .before .before .before .before .before .args in
     let L = c .before .before .before .before .before .before .before .before .loop in
-    tells-no (edge-both (a .t .now) (a .after .now) (a .before .now) (a .of) (c .before .before .before .before .before .before .before .before .before .before .before .before .pre .0) (L .e) (c .before .before .before .before .before .before .if1 .taken) (sym (ap (at (a .after .now)) (c .before .before .before .before .before .edge-from .ensures .0)) ∙ c .before .before .if2 .taken) (sym (ap (at (a .before .now)) (c .before .before .before .before .edge-to .ensures .0)) ∙ c .if3 .taken))
+    tells-no (edge-both (a .t .now) (a .after .now) (a .before .now) (a .of) (p .0) (L .e) (c .before .before .before .before .before .before .if1 .taken) (sym (ap (at (a .after .now)) (c .before .before .before .before .before .edge-from .ensures .0)) ∙ c .before .before .if2 .taken) (sym (ap (at (a .before .now)) (c .before .before .before .before .edge-to .ensures .0)) ∙ c .if3 .taken))
 
 loop-less : tie.Need-loop-less Inv-loop μ-loop
 loop-less c = search needs

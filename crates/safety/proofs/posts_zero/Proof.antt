@@ -4,7 +4,7 @@ use mathlib.Core.Path.{_≡_, sym, ap, _∙_}
 use native.Mathlib.Omega.{arith}
 use Rattle.table.specs.Program.{programOf}
 use Rattle.table.proofs.Ready.{few-functions, functions-are}
-use Rattle.rules.specs.Choice.{at}
+use Rattle.size.specs.Numbers.{at}
 use Rattle.safety.specs.Test.{PostsBelow}
 use Rattle.safety.proofs.Testing.{tells-yes, tells-no, posts-none, posts-more}
 use Rattle.safety.proofs.posts_zero.Statement.{statement}

@@ -9,9 +9,10 @@ use lib.ListN.{drop}
 use borrow.Author.Tests.{eq-eqb, ne-eqb}
 use borrow.Author.Needs.{needs}
 use Rattle.table.specs.Refusal.{refusedAt, refusal}
-use Rattle.table.specs.Record.{records, isEntry, functions, nodes, edges}
+use Rattle.table.specs.Record.{records, isEntry, functions}
 use Rattle.table.specs.Checks.{checks, broken, noEntry}
-use Rattle.table.specs.Answer.{outcome, outcomeFor, accepted, refused}
+use Rattle.table.specs.Answer.{outcome, outcomeFor, accepted, refused, CountsOf}
+use Rattle.table.specs.declared.Counts.{Counts}
 use Rattle.table.specs.Scan.{First}
 use Rattle.table.proofs.Below.{first-some, first-none, first-not-any}
 use Rattle.table.proofs.Refusals.{refusal-pass, refusal-here}
@@ -22,9 +23,9 @@ refused-outcome : (t : List ℕ) (n p : ℕ) → refusal checks t ≡ some (refu
 unfolding outcome outcomeFor
 refused-outcome t n p e = rw e refl
 
-accepted-outcome : (t : List ℕ) → refusal checks t ≡ none → accepted (functions t) (nodes t) (edges t) ≡ outcome t
+accepted-outcome : (t : List ℕ) (of : Counts) → CountsOf t of → refusal checks t ≡ none → accepted (of .functions) (of .nodes) (of .edges) ≡ outcome t
 unfolding outcome outcomeFor
-accepted-outcome t e = rw e refl
+accepted-outcome t of counts e = rw (e, counts .functions-are, counts .nodes-are, counts .edges-are) refl
 
 nothing-left : (t : List ℕ) → refusal (drop 8 checks) t ≡ none
 unfolding checks refusal
@@ -39,63 +40,63 @@ entry-told t f m e p = rw (e, first-not-any (isEntry t) (records t) m p) refl
 abbrev Past : ℕ → List ℕ → Type 0
 Past k t = refusal checks t ≡ refusal (drop k checks) t
 
--- the table, as it is known past check k
-abbrev table-1 : tie.Else1 → List ℕ
-table-1 c = c .before .before .args .t .now
+-- the table, and its counts as they are known past check k
+abbrev table : tie.Else1 → List ℕ
+table c = c .before .before .args .t .now
 
-abbrev table-2 : tie.Else2 → List ℕ
-table-2 c = table-1 (c .before .before .before)
+abbrev tallied-2 : tie.Else2 → tie.After-tally
+tallied-2 c = c .before .before
 
-abbrev table-3 : tie.Else3 → List ℕ
-table-3 c = table-2 (c .before .before)
+abbrev tallied-3 : tie.Else3 → tie.After-tally
+tallied-3 c = tallied-2 (c .before .before)
 
-abbrev table-4 : tie.Else4 → List ℕ
-table-4 c = table-3 (c .before .before)
+abbrev tallied-4 : tie.Else4 → tie.After-tally
+tallied-4 c = tallied-3 (c .before .before)
 
-abbrev table-5 : tie.Else5 → List ℕ
-table-5 c = table-4 (c .before .before)
+abbrev tallied-5 : tie.Else5 → tie.After-tally
+tallied-5 c = tallied-4 (c .before .before)
 
-abbrev table-6 : tie.Else6 → List ℕ
-table-6 c = table-5 (c .before .before)
+abbrev tallied-6 : tie.Else6 → tie.After-tally
+tallied-6 c = tallied-5 (c .before .before)
 
-abbrev table-7 : tie.Else7 → List ℕ
-table-7 c = table-6 (c .before .before)
+abbrev tallied-7 : tie.Else7 → tie.After-tally
+tallied-7 c = tallied-6 (c .before .before)
 
-abbrev table-8 : tie.Else8 → List ℕ
-table-8 c = table-7 (c .before .before)
+abbrev tallied-8 : tie.Else8 → tie.After-tally
+tallied-8 c = tallied-7 (c .before .before)
 
-past-1 : (c : tie.Else1) → Past 1 (table-1 c)
+past-1 : (c : tie.Else1) → Past 1 (table c)
 unfolding checks broken
 past-1 c = refusal-pass _ _ _ (rw (eq-eqb _ _ (c .if1 .left)) refl)
 
-past-2 : (c : tie.Else2) → Past 2 (table-2 c)
+past-2 : (c : tie.Else2) → Past 2 (table (tallied-2 c .before))
 unfolding checks
 past-2 c = past-1 (c .before .before .before) ∙ refusal-pass _ _ _ (first-none _ _ _ (c .before .first .ensures) (c .if2 .left))
 
-past-3 : (c : tie.Else3) → Past 3 (table-3 c)
+past-3 : (c : tie.Else3) → Past 3 (table (tallied-3 c .before))
 unfolding checks
 past-3 c = past-2 (c .before .before) ∙ refusal-pass _ _ _ (first-none _ _ _ (c .before .first2 .ensures) (c .if3 .left))
 
-past-4 : (c : tie.Else4) → Past 4 (table-4 c)
+past-4 : (c : tie.Else4) → Past 4 (table (tallied-4 c .before))
 unfolding checks
 past-4 c = past-3 (c .before .before) ∙ refusal-pass _ _ _ (first-none _ _ _ (c .before .first-too-many .ensures) (c .if4 .left))
 
-past-5 : (c : tie.Else5) → Past 5 (table-5 c)
+past-5 : (c : tie.Else5) → Past 5 (table (tallied-5 c .before))
 unfolding checks
 past-5 c =
-    let of = c .before .before .before .before .before .before .before .before .tally .ensures in
-    let h : noEntry (table-5 c) ≡ false = entry-told (table-5 c) _ _ (of .functions-are) (c .before .first3 .ensures) ∙ c .if5 .left in
+    let at = tallied-5 c in
+    let h : noEntry (table (at .before)) ≡ false = entry-told _ _ _ (at .tally .ensures .functions-are) (c .before .first3 .ensures) ∙ c .if5 .left in
     past-4 (c .before .before) ∙ refusal-pass _ _ _ (rw h refl)
 
-past-6 : (c : tie.Else6) → Past 6 (table-6 c)
+past-6 : (c : tie.Else6) → Past 6 (table (tallied-6 c .before))
 unfolding checks
 past-6 c = past-5 (c .before .before) ∙ refusal-pass _ _ _ (first-none _ _ _ (c .before .first4 .ensures) (c .if6 .left))
 
-past-7 : (c : tie.Else7) → Past 7 (table-7 c)
+past-7 : (c : tie.Else7) → Past 7 (table (tallied-7 c .before))
 unfolding checks
 past-7 c = past-6 (c .before .before) ∙ refusal-pass _ _ _ (first-none _ _ _ (c .before .first5 .ensures) (c .if7 .left))
 
-past-8 : (c : tie.Else8) → Past 8 (table-8 c)
+past-8 : (c : tie.Else8) → Past 8 (table (tallied-8 c .before))
 unfolding checks
 past-8 c = past-7 (c .before .before) ∙ refusal-pass _ _ _ (first-none _ _ _ (c .before .first6 .ensures) (c .if8 .left))
 
@@ -121,9 +122,8 @@ returns-4 c =
 returns-5 : tie.Need-returns-5
 unfolding checks
 returns-5 c =
-    let t = table-4 (c .before .before) in
-    let of = c .before .before .before .before .before .before .before .before .tally .ensures in
-    let h : noEntry t ≡ true = entry-told t _ _ (of .functions-are) (c .before .first3 .ensures) ∙ c .if5 .taken in
+    let at = tallied-4 (c .before .before) in
+    let h : noEntry (table (at .before)) ≡ true = entry-told _ _ _ (at .tally .ensures .functions-are) (c .before .first3 .ensures) ∙ c .if5 .taken in
     refused-outcome _ _ _ (past-4 (c .before .before) ∙ refusal-here _ _ _ (rw h refl))
 
 returns-6 : tie.Need-returns-6
@@ -142,28 +142,28 @@ returns-8 c =
     refused-outcome _ _ _ (past-7 (c .before .before) ∙ refusal-here _ _ _ (first-some _ _ _ (c .before .first6 .ensures) (c .if8 .taken)))
 
 returns-9 : tie.Need-returns-9
-returns-9 c = cc (accepted-outcome (table-8 c) (past-8 c ∙ nothing-left _))
+returns-9 c = accepted-outcome _ _ (tallied-8 c .tally .ensures) (past-8 c ∙ nothing-left _)
 
 tally-requires : tie.Need-tally-requires
 tally-requires c κs = search needs
 
 first-requires : tie.Need-first-requires
-first-requires c κs = search needs
+first-requires c κs = c .tally .ensures
 
 first-requires-2 : tie.Need-first-requires-2
-first-requires-2 c κs = search needs
+first-requires-2 c κs = tallied-2 c .tally .ensures
 
 first-requires-3 : tie.Need-first-requires-3
-first-requires-3 c κs = search needs
+first-requires-3 c κs = tallied-4 c .tally .ensures
 
 first-requires-4 : tie.Need-first-requires-4
-first-requires-4 c κs = search needs
+first-requires-4 c κs = tallied-5 c .tally .ensures
 
 first-requires-5 : tie.Need-first-requires-5
-first-requires-5 c κs = search needs
+first-requires-5 c κs = tallied-6 c .tally .ensures
 
 first-requires-6 : tie.Need-first-requires-6
-first-requires-6 c κs = search needs
+first-requires-6 c κs = tallied-7 c .tally .ensures
 
 first-too-many-requires : tie.Need-first-too-many-requires
 first-too-many-requires c κs = search needs

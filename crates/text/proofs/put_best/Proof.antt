@@ -28,7 +28,10 @@ slice-aggregate-put-functions : tie.Need-slice-aggregate-put-functions
 slice-aggregate-put-functions c = search needs
 
 put-functions-requires : tie.Need-put-functions-requires
-put-functions-requires c κs = (omega (arith, few-functions (c .before .before .before .before .before .before .before .before .before .before .before .args .t .now) (c .before .before .before .before .before .before .before .before .before .before .before .args .of) (c .before .before .before .before .before .before .before .before .before .before .before .pre .0), few-nodes (c .before .before .before .before .before .before .before .before .before .before .before .args .t .now) (c .before .before .before .before .before .before .before .before .before .before .before .args .of) (c .before .before .before .before .before .before .before .before .before .before .before .pre .0)), omega (arith, few-functions (c .before .before .before .before .before .before .before .before .before .before .before .args .t .now) (c .before .before .before .before .before .before .before .before .before .before .before .args .of) (c .before .before .before .before .before .before .before .before .before .before .before .pre .0), few-nodes (c .before .before .before .before .before .before .before .before .before .before .before .args .t .now) (c .before .before .before .before .before .before .before .before .before .before .before .args .of) (c .before .before .before .before .before .before .before .before .before .before .before .pre .0), c .before .before .before .before .best .kept .1 .1 .0, c .before .before .before .before .best .kept .1 .0, c .before .before .before .before .before .before .before .zero-sizes .ensures, c .before .before .before .before .before .before .before .before .zero-verdicts .ensures))
+put-functions-requires c κs =
+    let a = c .before .before .before .before .before .before .before .before .before .before .before .args in
+    let p = c .before .before .before .before .before .before .before .before .before .before .before .pre in
+    (omega (arith, few-functions (a .t .now) (a .of) (p .0), few-nodes (a .t .now) (a .of) (p .0)), omega (arith, few-functions (a .t .now) (a .of) (p .0), few-nodes (a .t .now) (a .of) (p .0), c .before .before .before .before .best .kept .1 .1 .0, c .before .before .before .before .best .kept .1 .0, c .before .before .before .before .before .before .before .zero-sizes .ensures, c .before .before .before .before .before .before .before .before .zero-verdicts .ensures))
 
 slice-aggregate-put-spawns : tie.Need-slice-aggregate-put-spawns
 slice-aggregate-put-spawns c = search needs
@@ -37,17 +40,27 @@ slice-aggregate-put-spawns-2 : tie.Need-slice-aggregate-put-spawns-2
 slice-aggregate-put-spawns-2 c = search needs
 
 put-spawns-requires : tie.Need-put-spawns-requires
-put-spawns-requires c κs = let p = c .before .before .before .before .before .put-functions .ensures in
-    let e = appended-end (107 * c .before .before .before .before .before .before .before .before .before .before .before .before .before .before .before .before .before .args .of .functions) p (functions-short _ (c .before .before .before .before .before .before .before .before .before .before .before .before .before .before .before .before .before .args .of .functions)) in
-    ((c .before .before .before .before .before .before .before .before .before .before .before .before .before .before .before .before .before .pre .0, omega (arith, e, p .long, few-functions (c .before .before .before .before .before .before .before .before .before .before .before .before .before .before .before .before .before .args .t .now) (c .before .before .before .before .before .before .before .before .before .before .before .before .before .before .before .before .before .args .of) (c .before .before .before .before .before .before .before .before .before .before .before .before .before .before .before .before .before .pre .0), few-nodes (c .before .before .before .before .before .before .before .before .before .before .before .before .before .before .before .before .before .args .t .now) (c .before .before .before .before .before .before .before .before .before .before .before .before .before .before .before .before .before .args .of) (c .before .before .before .before .before .before .before .before .before .before .before .before .before .before .before .before .before .pre .0))), (omega (arith, few-functions (c .before .before .before .before .before .before .before .before .before .before .before .before .before .before .before .before .before .args .t .now) (c .before .before .before .before .before .before .before .before .before .before .before .before .before .before .before .before .before .args .of) (c .before .before .before .before .before .before .before .before .before .before .before .before .before .before .before .before .before .pre .0), few-nodes (c .before .before .before .before .before .before .before .before .before .before .before .before .before .before .before .before .before .args .t .now) (c .before .before .before .before .before .before .before .before .before .before .before .before .before .before .before .before .before .args .of) (c .before .before .before .before .before .before .before .before .before .before .before .before .before .before .before .before .before .pre .0), c .before .before .before .before .before .before .before .before .before .before .best .kept .1 .1 .0, c .before .before .before .before .before .before .before .before .before .before .best .kept .1 .0, c .before .before .before .before .before .before .before .before .before .before .before .before .before .zero-sizes .ensures, c .before .before .before .before .before .before .before .before .before .before .before .before .before .before .zero-verdicts .ensures), omega (arith, few-functions (c .before .before .before .before .before .before .before .before .before .before .before .before .before .before .before .before .before .args .t .now) (c .before .before .before .before .before .before .before .before .before .before .before .before .before .before .before .before .before .args .of) (c .before .before .before .before .before .before .before .before .before .before .before .before .before .before .before .before .before .pre .0), few-nodes (c .before .before .before .before .before .before .before .before .before .before .before .before .before .before .before .before .before .args .t .now) (c .before .before .before .before .before .before .before .before .before .before .before .before .before .before .before .before .before .args .of) (c .before .before .before .before .before .before .before .before .before .before .before .before .before .before .before .before .before .pre .0), c .before .before .before .before .before .before .before .before .before .before .best .kept .1 .1 .0, c .before .before .before .before .before .before .before .before .before .before .best .kept .1 .0, c .before .before .before .before .before .before .before .before .before .before .before .before .before .zero-sizes .ensures, c .before .before .before .before .before .before .before .before .before .before .before .before .before .before .zero-verdicts .ensures)))
+put-spawns-requires c κs =
+    let a = c .before .before .before .before .before .before .before .before .before .before .before .before .before .before .before .before .before .args in
+    let p2 = c .before .before .before .before .before .before .before .before .before .before .before .before .before .before .before .before .before .pre in
+    let zero-verdicts = c .before .before .before .before .before .before .before .before .before .before .before .before .before .before .zero-verdicts in
+    let zero-sizes = c .before .before .before .before .before .before .before .before .before .before .before .before .before .zero-sizes in
+    let best = c .before .before .before .before .before .before .before .before .before .before .best in
+    let p = c .before .before .before .before .before .put-functions .ensures in
+    let e = appended-end (107 * a .of .functions) p (functions-short _ (a .of .functions)) in
+    ((p2 .0, omega (arith, e, p .long, few-functions (a .t .now) (a .of) (p2 .0), few-nodes (a .t .now) (a .of) (p2 .0))), (omega (arith, few-functions (a .t .now) (a .of) (p2 .0), few-nodes (a .t .now) (a .of) (p2 .0), best .kept .1 .1 .0, best .kept .1 .0, zero-sizes .ensures, zero-verdicts .ensures), omega (arith, few-functions (a .t .now) (a .of) (p2 .0), few-nodes (a .t .now) (a .of) (p2 .0), best .kept .1 .1 .0, best .kept .1 .0, zero-sizes .ensures, zero-verdicts .ensures)))
 
 same-length : tie.Need-same-length
 same-length c = search needs
 
 returns : tie.Need-returns
-returns c = let b = c .before .before .before .before .before .before .before .before .before .before .before .before .before .best in
+returns c =
+    let p = c .before .before .before .before .before .before .before .before .before .before .before .before .before .before .before .before .before .before .before .before .pre in
+    let zero-verdicts = c .before .before .before .before .before .before .before .before .before .before .before .before .before .before .before .before .before .zero-verdicts in
+    let zero-sizes = c .before .before .before .before .before .before .before .before .before .before .before .before .before .before .before .before .zero-sizes in
+    let b = c .before .before .before .before .before .before .before .before .before .before .before .before .before .best in
     let a = c .before .before .before .before .before .before .before .before .before .before .before .before .before .before .before .before .before .before .before .before .args in
-    printed (a .t .now) (c .before .before .before .before .before .before .before .before .before .before .before .before .before .before .before .before .before .zero-verdicts .result) (b .last .1 .0) (c .before .before .before .before .before .before .before .before .before .before .before .before .before .before .before .before .zero-sizes .result) (b .last .1 .1 .0) (b .result) (a .of) (c .before .before .before .before .before .before .before .before .before .before .before .before .before .before .before .before .before .before .before .before .pre .0) (sym (c .before .before .before .before .before .before .before .before .before .before .before .before .before .before .before .before .before .zero-verdicts .ensures)) (sym (c .before .before .before .before .before .before .before .before .before .before .before .before .before .before .before .before .zero-sizes .ensures)) (b .ensures .0) (b .ensures .1) (c .before .before .before .before .before .before .before .before .put-functions .ensures) (c .before .before .put-spawns .ensures)
+    printed (a .t .now) (zero-verdicts .result) (b .last .1 .0) (zero-sizes .result) (b .last .1 .1 .0) (b .result) (a .of) (p .0) (sym (zero-verdicts .ensures)) (sym (zero-sizes .ensures)) (b .ensures .0) (b .ensures .1) (c .before .before .before .before .before .before .before .before .put-functions .ensures) (c .before .before .put-spawns .ensures)
 
 pub put-best-spec : {M : Type 1} → statement M
 put-best-spec =

@@ -39,15 +39,19 @@ same-length-2 : tie.Need-same-length-2
 same-length-2 c = search needs
 
 returns-2 : tie.Need-returns-2
-returns-2 c = let p = c .before .before .put-best .ensures in
-    (accepted {t = c .before .before .before .before .before .before .before .before .before .before .before .args .t .now} (omega arith) ((answer-accepted (c .before .before .before .before .before .before .before .before .before .before .before .args .t .now) (c .before .before .before .before .before .of .given .0 .0) (sym (ap outcomeOf (c .before .before .before .before .before .of .given .1)) ∙ c .before .before .before .before .before .before .before .check .ensures)) .accepted-is) (p .choice) (p .sizes) (p .returned) (p .least) (p .appended .text), appended-within (p .appended) (omega arith))
+returns-2 c =
+    let a = c .before .before .before .before .before .before .before .before .before .before .before .args in
+    let p = c .before .before .put-best .ensures in
+    (accepted {t = a .t .now} (omega arith) ((answer-accepted (a .t .now) (c .before .before .before .before .before .of .given .0 .0) (sym (ap outcomeOf (c .before .before .before .before .before .of .given .1)) ∙ c .before .before .before .before .before .before .before .check .ensures)) .accepted-is) (p .choice) (p .sizes) (p .returned) (p .least) (p .appended .text), appended-within (p .appended) (omega arith))
 
 same-length-3 : tie.Need-same-length-3
 same-length-3 c = search needs
 
 returns-3 : tie.Need-returns-3
-returns-3 c = let g = c .before .before .before .before .before .number .given in
-    (refused {t = c .before .before .before .before .before .before .before .before .before .before .before .args .t .now} (omega arith) (g .0 .0) (g .0 .1 .0) (sym (c .before .before .before .before .before .before .before .check .ensures) ∙ ap outcomeOf (g .1)) (c .before .before .put-refusal .ensures .text), appended-within (c .before .before .put-refusal .ensures) (omega arith))
+returns-3 c =
+    let a = c .before .before .before .before .before .before .before .before .before .before .before .args in
+    let g = c .before .before .before .before .before .number .given in
+    (refused {t = a .t .now} (omega arith) (g .0 .0) (g .0 .1 .0) (sym (c .before .before .before .before .before .before .before .check .ensures) ∙ ap outcomeOf (g .1)) (c .before .before .put-refusal .ensures .text), appended-within (c .before .before .put-refusal .ensures) (omega arith))
 
 pub put-text-spec : {M : Type 1} → statement M
 put-text-spec =

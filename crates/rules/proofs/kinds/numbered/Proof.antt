@@ -1,6 +1,6 @@
 use mathlib.Core.Path.{ap}
 use native.Mathlib.Omega.{arith}
-use Rattle.rules.specs.Listed.{countOf}
+use Rattle.rules.specs.Numbered.{countOf}
 use borrow.Author.Needs.{needs}
 use Rattle.rules.proofs.kinds.numbered.Statement.{statement}
 use Rattle.rules.proofs.kinds.numbered.Tie as tie

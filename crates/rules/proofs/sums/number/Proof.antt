@@ -1,6 +1,6 @@
 use mathlib.Core.Path.{ap}
 use native.Mathlib.Omega.{arith}
-use Rattle.rules.specs.Causes.{offset}
+use Rattle.rules.specs.Entries.{offset}
 use borrow.Author.Needs.{needs}
 use Rattle.rules.proofs.sums.number.Statement.{statement}
 use Rattle.rules.proofs.sums.number.Tie as tie

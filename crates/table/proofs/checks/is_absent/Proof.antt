@@ -1,4 +1,3 @@
-use mathlib.Core.Path.{refl}
 use Rattle.table.specs.Checks.{absent}
 use borrow.Author.Needs.{needs}
 use Rattle.table.proofs.checks.is_absent.Statement.{statement}
@@ -26,7 +25,7 @@ returns c =
     let kind = c .before .before .before .before .kind .ensures in
     let a = c .before .before .before .field-a .ensures .0 in
     let b = c .before .before .field-b .ensures .0 in
-    rw (kind, a, b, c .has-target .ensures, c .before .sort .ensures, counts .functions-are, counts .nodes-are) refl
+    rw (kind, a, b, c .has-target .ensures, c .before .sort .ensures, counts .functions-are, counts .nodes-are)
 
 pub is-absent-spec : {M : Type 1} → statement M
 is-absent-spec =

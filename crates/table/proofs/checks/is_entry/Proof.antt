@@ -9,7 +9,7 @@ sort-requires : tie.Need-sort-requires
 sort-requires c κs = search needs
 
 returns : tie.Need-returns
-returns c = cc
+returns c = rw (c .before .kind .ensures, c .sort .ensures)
 
 pub is-entry-spec : {M : Type 1} → statement M
 is-entry-spec = tie.close (tie.spec kind-requires sort-requires returns)

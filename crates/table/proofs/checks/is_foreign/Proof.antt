@@ -20,7 +20,10 @@ owner-requires-2 c κs = search needs
 
 returns : tie.Need-returns
 unfolding foreign
-returns c = cc
+returns c =
+    let kind = c .before .before .before .before .kind .ensures in
+    let a = c .before .before .before .field-a .ensures .0 in
+    rw (kind, c .before .before .owner .ensures, a, c .owner2 .ensures, c .before .field-b .ensures .0)
 
 pub is-foreign-spec : {M : Type 1} → statement M
 is-foreign-spec =

@@ -20,7 +20,10 @@ kind-requires c κs = search needs
 
 returns : tie.Need-returns
 unfolding notPlain
-returns c = cc
+returns c =
+    let a = c .before .before .before .before .field-a .ensures .0 in
+    let b = c .before .before .field-b .ensures .0 in
+    rw (c .kind .ensures, c .before .before .before .node-sort .ensures, a, c .before .node-sort2 .ensures, b)
 
 pub is-not-plain-spec : {M : Type 1} → statement M
 is-not-plain-spec =

@@ -20,7 +20,11 @@ has-target-requires c κs = search needs
 
 returns : tie.Need-returns
 unfolding unlisted
-returns c = cc
+returns c =
+    let kind = c .before .before .before .before .kind .ensures in
+    let sort = c .before .before .before .sort .ensures in
+    let b = c .before .before .field-b .ensures .0 in
+    rw (c .has-target .ensures, kind, sort, b, c .before .field-c .ensures .0)
 
 pub is-unlisted-spec : {M : Type 1} → statement M
 is-unlisted-spec =

@@ -11,7 +11,7 @@ sort-requires : tie.Need-sort-requires
 sort-requires c κs = search needs
 
 returns : tie.Need-returns
-returns c = cc
+returns c = rw (← c .before .before .before .pre .0 .functions-are) (c .sort .ensures)
 
 pub node-sort-spec : {M : Type 1} → statement M
 node-sort-spec = tie.close (tie.spec add-sort sort-requires returns)

@@ -11,7 +11,7 @@ field-a-requires : tie.Need-field-a-requires
 field-a-requires c κs = search needs
 
 returns : tie.Need-returns
-returns c = cc
+returns c = rw (← c .before .before .before .pre .0 .functions-are) (c .field-a .ensures .0)
 
 pub owner-spec : {M : Type 1} → statement M
 owner-spec = tie.close (tie.spec add-field-a field-a-requires returns)

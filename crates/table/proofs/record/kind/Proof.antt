@@ -8,7 +8,7 @@ byte-requires c κs = search needs
 
 returns : tie.Need-returns
 unfolding kindOf
-returns c = search needs
+returns c = c .byte .ensures
 
 pub kind-spec : {M : Type 1} → statement M
 kind-spec = tie.close (tie.spec byte-requires returns)

@@ -8,7 +8,7 @@ byte-requires c κs = search needs
 
 returns : tie.Need-returns
 unfolding sortOf
-returns c = search needs
+returns c = c .byte .ensures
 
 pub sort-spec : {M : Type 1} → statement M
 sort-spec = tie.close (tie.spec byte-requires returns)

@@ -5,7 +5,8 @@ use mathlib.Core.Path.{_≡_, sym}
 use borrow.Author.Needs.{needs}
 use Rattle.table.specs.Below.{count}
 use Rattle.table.specs.Scan.{ofKind}
-use Rattle.table.proofs.Below.{count-le, count-more, count-none}
+use Rattle.table.proofs.Below.{count-le, count-none}
+use Rattle.table.proofs.Counting.{seen-more}
 use Rattle.table.proofs.scan.count_kind.Statement.{statement}
 use Rattle.table.proofs.scan.count_kind.Tie as tie
 
@@ -26,12 +27,8 @@ one-if-requires c κs = search needs
 
 add-seen : tie.Need-add-seen Inv-loop μ-loop
 add-seen c =
-    omega (
-      arith,
-      count-le
-          (ofKind (c .before .before .before .before .before .args .t .now) (c .before .before .before .before .before .args .k))
-          (c .before .before .before .loop .i),
-    )
+    let a = c .before .before .before .before .before .args in
+    omega (arith, count-le (ofKind (a .t .now) (a .k)) (c .before .before .before .loop .i))
 
 add-i : tie.Need-add-i Inv-loop μ-loop
 add-i c = search needs
@@ -40,12 +37,15 @@ loop-less : tie.Need-loop-less Inv-loop μ-loop
 loop-less c = search needs
 
 loop-again : tie.Need-loop-again Inv-loop μ-loop
-loop-again c = (search needs, cc (count-more (ofKind (c .before .before .before .before .before .args .t .now) (c .before .before .before .before .before .args .k)) (c .before .before .before .loop .i)))
+loop-again c =
+    let a = c .before .before .before .before .before .args in
+    let loop = c .before .before .before .loop in
+    (search needs, seen-more (a .t .now) (a .k) (loop .i) (c .before .kind .ensures) (loop .inv .1) (c .one-if .ensures .0))
 
 returns : tie.Need-returns Inv-loop μ-loop
 returns c =
     let e : c .before .loop .i ≡ c .before .before .before .args .n = omega arith in
-    cc
+    rw e at (c .before .loop .inv .1)
 
 pub count-kind-spec : {M : Type 1} → statement M
 count-kind-spec =

@@ -1,11 +1,12 @@
 -- The invariant: what was seen is the count below i, and none of the records before i is one too many.
 use Prim.Native.Nat.{_-_}
 use native.Mathlib.Omega.{arith}
-use mathlib.Core.Path.{_≡_, sym}
+use mathlib.Core.Path.{_≡_, sym, _∙_}
 use borrow.Author.Needs.{needs}
 use Rattle.table.specs.Below.{count}
 use Rattle.table.specs.Scan.{ofKind, surplusOf}
-use Rattle.table.proofs.Below.{Passed, passed-none, passed-more, found-here, found-nowhere, count-le, count-more, count-none}
+use Rattle.table.proofs.Below.{Passed, passed-none, passed-more, found-here, found-nowhere, count-le, count-none}
+use Rattle.table.proofs.Counting.{surplus-told, seen-more}
 use Rattle.table.proofs.scan.first_surplus.Statement.{statement}
 use Rattle.table.proofs.scan.first_surplus.Tie as tie
 
@@ -22,7 +23,10 @@ kind-requires : tie.Need-kind-requires Inv-loop μ-loop
 kind-requires c κs = search needs
 
 returns : tie.Need-returns Inv-loop μ-loop
-returns c = found-here _ _ _ (c .before .before .before .loop .inv .0) (cc)
+returns c =
+    let loop = c .before .before .before .loop in
+    let a = c .before .before .before .before .before .args in
+    found-here _ _ _ (loop .inv .0) (surplus-told (a .t .now) (a .k) (loop .i) (c .before .kind .ensures) (loop .inv .1) (a .limit) ∙ c .if1 .taken)
 
 one-if-requires : tie.Need-one-if-requires Inv-loop μ-loop
 one-if-requires c κs = search needs
@@ -41,8 +45,10 @@ loop-less c = search needs
 loop-again : tie.Need-loop-again Inv-loop μ-loop
 loop-again c =
     let a = c .before .before .before .before .before .before .args in
-    let i = c .before .before .before .before .loop .i in
-    (passed-more _ _ _ (search needs) (c .before .before .before .before .loop .inv .0) (cc), cc (count-more (ofKind (a .t .now) (a .k)) i))
+    let loop = c .before .before .before .before .loop in
+    let kind = c .before .before .kind .ensures in
+    let none = surplus-told (a .t .now) (a .k) (loop .i) kind (loop .inv .1) (a .limit) ∙ c .before .if1 .left in
+    (passed-more _ _ _ (c .before .before .before .loop-test .taken) (loop .inv .0) none, seen-more (a .t .now) (a .k) (loop .i) kind (loop .inv .1) (c .one-if .ensures .0))
 
 returns-2 : tie.Need-returns-2 Inv-loop μ-loop
 returns-2 c = found-nowhere _ _ _ (c .before .loop .inv .0) (search needs)

@@ -36,7 +36,9 @@ shared-slice-read-put-field-3 : tie.Need-shared-slice-read-put-field-3
 shared-slice-read-put-field-3 c = search needs
 
 put-field-requires-3 : tie.Need-put-field-requires-3
-put-field-requires-3 c κs = omega (arith, appended-room 21 42 (c .before .before .before .before .put-field2 .ensures) (field-short _) (appended-room 21 63 (c .before .before .before .before .before .before .before .before .before .put-field .ensures) (field-short _) (c .before .before .before .before .before .before .before .before .before .before .before .before .before .before .pre .0)))
+put-field-requires-3 c κs =
+    let p = c .before .before .before .before .before .before .before .before .before .before .before .before .before .before .pre in
+    omega (arith, appended-room 21 42 (c .before .before .before .before .put-field2 .ensures) (field-short _) (appended-room 21 63 (c .before .before .before .before .before .before .before .before .before .put-field .ensures) (field-short _) (p .0)))
 
 add-put-field-3 : tie.Need-add-put-field-3
 add-put-field-3 c = search needs
@@ -48,13 +50,20 @@ shared-slice-read-put-field-4 : tie.Need-shared-slice-read-put-field-4
 shared-slice-read-put-field-4 c = search needs
 
 put-field-requires-4 : tie.Need-put-field-requires-4
-put-field-requires-4 c κs = appended-room 21 21 (c .before .before .before .before .put-field3 .ensures) (field-short _) (appended-room 21 42 (c .before .before .before .before .before .before .before .before .before .put-field2 .ensures) (field-short _) (appended-room 21 63 (c .before .before .before .before .before .before .before .before .before .before .before .before .before .before .put-field .ensures) (field-short _) (c .before .before .before .before .before .before .before .before .before .before .before .before .before .before .before .before .before .before .before .pre .0)))
+put-field-requires-4 c κs =
+    let p = c .before .before .before .before .before .before .before .before .before .before .before .before .before .before .before .before .before .before .before .pre in
+    let put-field = c .before .before .before .before .before .before .before .before .before .before .before .before .before .before .put-field in
+    appended-room 21 21 (c .before .before .before .before .put-field3 .ensures) (field-short _) (appended-room 21 42 (c .before .before .before .before .before .before .before .before .before .put-field2 .ensures) (field-short _) (appended-room 21 63 (put-field .ensures) (field-short _) (p .0)))
 
 same-length : tie.Need-same-length
 same-length c = search needs
 
 returns : tie.Need-returns
-returns c = appended-as (four-from (c .before .before .before .before .before .before .before .before .before .before .before .before .before .before .before .before .before .before .before .before .before .before .args .sizes .now) (c .before .before .before .before .before .before .before .before .before .before .before .before .before .before .before .before .before .before .before .before .before .before .args .x)) (appended-then (appended-then (appended-then (c .before .before .before .before .before .before .before .before .before .before .before .before .before .before .before .before .before .put-field .ensures) (c .before .before .before .before .before .before .before .before .before .before .before .before .put-field2 .ensures)) (c .before .before .before .before .before .before .before .put-field3 .ensures)) (c .before .before .put-field4 .ensures))
+returns c =
+    let a = c .before .before .before .before .before .before .before .before .before .before .before .before .before .before .before .before .before .before .before .before .before .before .args in
+    let put-field = c .before .before .before .before .before .before .before .before .before .before .before .before .before .before .before .before .before .put-field in
+    let put-field2 = c .before .before .before .before .before .before .before .before .before .before .before .before .put-field2 in
+    appended-as (four-from (a .sizes .now) (a .x)) (appended-then (appended-then (appended-then (put-field .ensures) (put-field2 .ensures)) (c .before .before .before .before .before .before .before .put-field3 .ensures)) (c .before .before .put-field4 .ensures))
 
 pub put-four-spec : {M : Type 1} → statement M
 put-four-spec =

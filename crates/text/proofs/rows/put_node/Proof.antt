@@ -1,7 +1,7 @@
 use mathlib.Core.Path.{sym, _∙_}
 use Rattle.table.specs.Program.{programOf}
 use Rattle.table.proofs.Ready.{functions-are}
-use Rattle.rules.specs.Choice.{at}
+use Rattle.size.specs.Numbers.{at}
 use Rattle.text.proofs.Appending.{appended-none, appended-as}
 use Rattle.text.proofs.Texts.{node-spawn, node-other}
 use borrow.Author.Needs.{needs}
@@ -27,8 +27,10 @@ same-length : tie.Need-same-length
 same-length c = search needs
 
 returns : tie.Need-returns
-returns c = let a = c .before .before .before .before .before .before .before .before .before .before .before .before .args in
-    appended-as (node-spawn (programOf (a .t .now)) (at (a .verdicts .now)) (at (a .sizes .now)) (a .n) (a .of .functions) (functions-are (a .t .now) (a .of) (c .before .before .before .before .before .before .before .before .before .before .before .before .pre .0 .0)) (sym (c .before .before .before .before .before .before .before .sort .ensures) ∙ c .before .before .before .before .before .before .if1 .taken)) (c .before .before .put-spawn .ensures)
+returns c =
+    let p = c .before .before .before .before .before .before .before .before .before .before .before .before .pre in
+    let a = c .before .before .before .before .before .before .before .before .before .before .before .before .args in
+    appended-as (node-spawn (programOf (a .t .now)) (at (a .verdicts .now)) (at (a .sizes .now)) (a .n) (a .of .functions) (functions-are (a .t .now) (a .of) (p .0 .0)) (sym (c .before .before .before .before .before .before .before .sort .ensures) ∙ c .before .before .before .before .before .before .if1 .taken)) (c .before .before .put-spawn .ensures)
 
 returns-2 : tie.Need-returns-2
 returns-2 c = let a = c .before .before .before .before .before .before .args in

@@ -1,7 +1,7 @@
 use Prim.Native.Nat.{_+_, _-_, _*_, _≤_}
 use native.Mathlib.Omega.{arith}
 use Rattle.table.specs.Program.{programOf}
-use Rattle.rules.specs.Choice.{at}
+use Rattle.size.specs.Numbers.{at}
 use Rattle.text.specs.Append.{Appended}
 use Rattle.text.specs.Listing.{joined, ofNodeText}
 use Rattle.text.proofs.Appending.{appended-end, joined-none, joined-next, joined-done}

@@ -1,0 +1,2 @@
+-- How the promises come about.
+mod Ends

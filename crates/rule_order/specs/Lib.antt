@@ -1,0 +1,3 @@
+-- What only helps proofs.
+pub mod Orders
+pub mod Ends
