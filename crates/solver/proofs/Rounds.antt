@@ -3,7 +3,7 @@ use Prim.Native.Nat.{ℕ, zero, suc, _+_, _-_, _*_, _<_, _≤_, min}
 use mathlib.Core.Path.{_≡_, refl, sym, ap, _∙_, subst}
 use mathlib.Core.Bool.{Bool, true, false, cond}
 use mathlib.Core.List.{List, [], _∷_, map}
-use mathlib.Core.Logic.{_⊎_, inl, inr, _≢_}
+use mathlib.Core.Logic.{_⊎_, inl, inr, _≢_, ⊎-elim}
 use native.Mathlib.Omega.{arith}
 use native.Mathlib.Decide.{ℕ-discrete, decLt}
 use lib.Dec.{ltb}
@@ -21,7 +21,7 @@ use Rattle.solver.specs.System.{Form, sumOf, gives, Derives, none, rule,
 use Rattle.solver.specs.Words.{entryCount, headOf, partOf, otherOf, baseOf, others, secondOf, wordForm, Item, word, start, itemForm}
 use Rattle.solver.specs.Causes.{Ok, Chain, uncaused, Risen, rises, leaps}
 use Rattle.solver.specs.Values.{Values, valuesOf, sizePlace, sumPlace, picked, pickedSum, valueAt, startsFrom}
-use Rattle.solver.specs.Rounds.{Unpacked, room, roomOf, Long, Round, left}
+use Rattle.solver.specs.Rounds.{Unpacked, room, roomOf, Long, Held, Round, left}
 use Rattle.solver.specs.declared.turns.Rule.{Rule}
 use Rattle.solver.proofs.Values.{value-size, value-after, value-before, value-through, value-picked, value-same, starts-taken, starts-zero}
 use Rattle.solver.proofs.Rises.{In, here, there, Put, put-below, uncaused-ok, risen-ok, leapt-ok}
@@ -62,6 +62,12 @@ second-low w h = go (decLt (otherOf w) 2304)
 -- a step to the next rule fits a word, and a buffer that is kept is as long as it was
 pub next-fits : {i count : ℕ} → i < count → count ≤ 8384 → Fits w64 (i + 1)
 next-fits h l = record { fits = omega arith }
+
+pub rule-fits : {i count : ℕ} → i < count → count ≤ 8384 → Fits w64 (i * 8)
+rule-fits h l = record { fits = omega arith }
+
+pub rule-read : {i count n : ℕ} → i < count → count ≤ n → i < n
+rule-read h l = omega arith
 
 pub as-long : {n : ℕ} {new old : List ℕ} → new ≡ old → n ≤ length old → n ≤ length new
 as-long e h = rw e h
@@ -212,7 +218,10 @@ put-cause l x c h = record { there = getD-set-same l x c 0 h; other = λ y n. ge
 
 -- ---- a turn, rule by rule
 
-module _ {rules : List ℕ} {count : ℕ} {from : ℕ → ℕ} {i : ℕ} {v : Values} {k : List ℕ} {clock started turns : ℕ} (round : Round rules count from i v k clock started turns) (here-is : i < count) (low : headOf (at rules i) < entryCount) where
+module _ {rules : List ℕ} {count : ℕ} {from : ℕ → ℕ} {i : ℕ} {v : Values} {k : List ℕ} {clock started turns end last : ℕ} (round : Round rules count from i v k clock started turns end last) (here-is : i < end) (low : headOf (at rules i) < entryCount) where
+  in-list : i < count
+  in-list = omega (arith, round .ends)
+
   abbrev form : Item count → Form ℕ
   form = itemForm rules count from
 
@@ -230,36 +239,40 @@ module _ {rules : List ℕ} {count : ℕ} {from : ℕ → ℕ} {i : ℕ} {v : Va
 
   module _ {old sum : ℕ} (old-is : old ≡ valueAt v x) (sum-is : sum ≡ gives (valueAt v) (wordForm rule-here)) where
     -- the rule asks for no more than there is: it holds
-    round-kept : sum ≤ old → Round rules count from (i + 1) v k clock started turns
+    round-kept : sum ≤ old → Round rules count from (i + 1) v k clock started turns end last
     round-kept h = record {
       places = omega arith;
+      ends = round .ends;
+      lasts = round .lasts;
       later = round .later;
       few = round .few;
       bound = round .bound;
       long = round .long;
       ok = round .ok;
       above = round .above;
-      held = λ q j b. holds q j b (ℕ-discrete j i);
+      since = λ j l b. go j b (ℕ-discrete j i) (λ c. round .since j l c);
+      held = λ q j b w. ⊎-elim (λ c. go j c (ℕ-discrete j i) (λ d. round .held q j b (inl d))) (λ c. round .held q j b (inr c)) w;
+      whole = round .whole;
     }
       where
-        holds : clock ≡ started → (j : ℕ) → j < i + 1 → Dec (j ≡ i) → gives (valueAt v) (wordForm (at rules j)) ≤ valueAt v (headOf (at rules j))
-        holds q j b (yes s) = rw s (omega arith)
-        holds q j b (no s) = round .held q j (omega (arith, s))
+        go : (j : ℕ) → j < i + 1 → Dec (j ≡ i) → (j < i → Held rules v j) → Held rules v j
+        go j b (yes s) f = rw s (omega arith)
+        go j b (no s) f = f (omega (arith, s))
 
     kept-less : left count (i + 1) v clock started < left count i v clock started
-    kept-less = omega arith
+    kept-less = omega (arith, in-list)
 
-    -- it asks for more: what rose is derived, and the turn is no longer quiet
+    -- it asks for more: what rose is derived, and the turn goes on to its end
     module _ {t : ℕ} (more : old < sum) {w : Values} (d : Changed v x t w) where
       leap : (b : ℕ) → In b (wordForm rule-here .body) → Chain (at k) x b → t ≡ unbounded → Ok form (valueAt w) (at (set k x uncaused))
       leap b n c e =
-          leapt-ok form (round .ok) (word i here-is) b uncaused (omega arith) n c (omega arith) (rw e at (d .put))
+          leapt-ok form (round .ok) (word i in-list) b uncaused (omega arith) n c (omega arith) (rw e at (d .put))
           (put-cause k x uncaused (omega (arith, round .long .causes-long)))
 
       ok-risen : {l : List ℕ} {then : ℕ} → Risen k x y z sum clock l t then → Ok form (valueAt w) (at l)
       ok-risen (rises c n e f u) =
           rw e
-          (risen-ok form (round .ok) (word i here-is) c (omega arith) (body-in rule-here c n) (rw (f ∙ sum-is) at (d .put)) (put-cause k x c (omega (arith, round .long .causes-long))))
+          (risen-ok form (round .ok) (word i in-list) c (omega arith) (body-in rule-here c n) (rw (f ∙ sum-is) at (d .put)) (put-cause k x c (omega (arith, round .long .causes-long))))
       ok-risen (leaps (inl c) e f u) = rw e (leap y here c f)
       ok-risen (leaps (inr c) e f u) = rw e (leap z (second-in rule-here) c f)
 
@@ -268,22 +281,26 @@ module _ {rules : List ℕ} {count : ℕ} {from : ℕ → ℕ} {i : ℕ} {v : Va
         sum-le = omega arith
 
         risen-less : left count (i + 1) w then started < left count i v clock started
-        risen-less = omega (arith, rise-ticks d old-is more sum-le r, rise-later d old-is more sum-le r, round .later)
+        risen-less = omega (arith, in-list, rise-ticks d old-is more sum-le r, rise-later d old-is more sum-le r, round .later)
 
-        round-risen : Round rules count from (i + 1) w l then started turns
+        round-risen : Round rules count from (i + 1) w l then started turns count (i + 1)
         round-risen = record {
-          places = omega arith;
+          places = omega (arith, in-list);
+          ends = omega arith;
+          lasts = omega (arith, in-list);
           later = omega (arith, round .later, rise-later d old-is more sum-le r);
           few = round .few;
           bound = omega (arith, round .bound, rise-ticks d old-is more sum-le r);
           long = rise-long d old-is more sum-le r (round .long);
           ok = ok-risen r;
           above = λ a. omega (arith, round .above a, put-below (d .put) (rise-up d old-is more sum-le r) a);
+          since = λ j b c. absurd (omega arith);
           held = λ q. absurd (omega (arith, round .later, rise-later d old-is more sum-le r));
+          whole = λ n. refl;
         }
 
 -- one rule, as the code goes over it: what it reads, and what comes of it
-module _ {rules : List ℕ} {count : ℕ} {from : ℕ → ℕ} {i : ℕ} (sizes after before through : List Size) {k : List ℕ} {clock started turns : ℕ} (round : Round rules count from i (valuesOf sizes after before through) k clock started turns) (here-is : i < count) (low : headOf (at rules i) < entryCount) {r : Rule} (u : Unpacked (at rules i) r) where
+module _ {rules : List ℕ} {count : ℕ} {from : ℕ → ℕ} {i : ℕ} (sizes after before through : List Size) {k : List ℕ} {clock started turns end last : ℕ} (round : Round rules count from i (valuesOf sizes after before through) k clock started turns end last) (here-is : i < end) (low : headOf (at rules i) < entryCount) {r : Rule} (u : Unpacked (at rules i) r) where
   abbrev u₀ : ℕ → ℕ
   u₀ = valueAt (valuesOf sizes after before through)
 
@@ -298,22 +315,26 @@ module _ {rules : List ℕ} {count : ℕ} {from : ℕ → ℕ} {i : ℕ} (sizes 
         let q = rw (u .base-is, u .other-is) at sum-is in
         q ∙ omega (arith, p, o) ∙ sym (word-gives (at rules i) u₀)
 
-    abbrev Next : Values → List ℕ → ℕ → Type 0
-    Next w l then = (left count (i + 1) w then started < left count i (valuesOf sizes after before through) clock started) × Round rules count from (i + 1) w l then started turns
+    abbrev Next : Values → List ℕ → ℕ → ℕ → ℕ → Type 0
+    Next w l then e n = (left count (i + 1) w then started < left count i (valuesOf sizes after before through) clock started) × Round rules count from (i + 1) w l then started turns e n
 
-    pub rule-kept : {more : Bool} → more ≡ ltb (valueOf old) (valueOf sum) → more ≡ false → {a b c d : List Size} {l : List ℕ} {then : ℕ} → l ≡ k → a ≡ sizes → b ≡ after → c ≡ before → d ≡ through → then ≡ clock → Next (valuesOf a b c d) l then
-    rule-kept m f e p q s t n =
+    pub rule-kept : {more : Bool} → more ≡ ltb (valueOf old) (valueOf sum) → more ≡ false → {a b c d : List Size} {l : List ℕ} {then end' last' : ℕ} → l ≡ k → a ≡ sizes → b ≡ after → c ≡ before → d ≡ through → then ≡ clock → end' ≡ end → last' ≡ last → Next (valuesOf a b c d) l then end' last'
+    rule-kept m f e p q s t n o g =
         let h : valueOf sum ≤ valueOf old = ltb-false _ _ (sym m ∙ f) in
-        rw (e, p, q, s, t, n) (kept-less round here-is low has asks, round-kept round here-is low has asks h)
+        rw (e, p, q, s, t, n, o, g) (kept-less round here-is low has asks, round-kept round here-is low has asks h)
 
-    pub rule-risen : {more : Bool} → more ≡ ltb (valueOf old) (valueOf sum) → more ≡ true → {t then then' : ℕ} {l l' : List ℕ} {w : Values} → Changed (valuesOf sizes after before through) (r .head) t w → Risen k (r .head) (r .part) (r .second) (valueOf sum) clock l t then → l' ≡ l → then' ≡ then → Next w l' then'
-    rule-risen m f d e p n =
+    pub rule-risen : {more : Bool} → more ≡ ltb (valueOf old) (valueOf sum) → more ≡ true → {t then then' : ℕ} {l l' : List ℕ} {w : Values} → Changed (valuesOf sizes after before through) (r .head) t w → Risen k (r .head) (r .part) (r .second) (valueOf sum) clock l t then → {end' last' : ℕ} → l' ≡ l → then' ≡ then → end' ≡ count → last' ≡ i + 1 → Next w l' then' end' last'
+    rule-risen m f d e p n o s =
         let h : valueOf old < valueOf sum = ltb-true _ _ (sym m ∙ f) in
         let c = rw (u .head-is) at d in
         let g = rw (u .head-is, u .part-is, u .second-is) at e in
-        rw (p, n) (risen-less round here-is low has asks h c g, round-risen round here-is low has asks h c g)
+        rw (p, n, o, s) (risen-less round here-is low has asks h c g, round-risen round here-is low has asks h c g)
 
-pub ticks : {rules : List ℕ} {count : ℕ} {from : ℕ → ℕ} {i : ℕ} {v : Values} {k : List ℕ} {clock started turns : ℕ} → Round rules count from i v k clock started turns → clock < 1000000000
+-- the rule that a turn has come to is one of the list
+pub rule-there : {rules : List ℕ} {count : ℕ} {from : ℕ → ℕ} {i : ℕ} {v : Values} {k : List ℕ} {clock started turns end last : ℕ} → Round rules count from i v k clock started turns end last → i < end → i < count
+rule-there r h = omega (arith, r .ends)
+
+pub ticks : {rules : List ℕ} {count : ℕ} {from : ℕ → ℕ} {i : ℕ} {v : Values} {k : List ℕ} {clock started turns end last : ℕ} → Round rules count from i v k clock started turns end last → clock < 1000000000
 ticks r = omega (arith, r .bound)
 
 some-risen : (clock started : ℕ) → started ≤ clock → (clock ≡ started → ⊥) → min 1 (clock - started) ≡ 1
@@ -322,29 +343,39 @@ some-risen clock started h n = omega (arith, n)
 none-risen : (clock : ℕ) → min 1 (clock - clock) ≡ 0
 none-risen clock = omega arith
 
-module _ {rules : List ℕ} {count : ℕ} {from : ℕ → ℕ} {i : ℕ} {v : Values} {k : List ℕ} {clock started turns : ℕ} (round : Round rules count from i v k clock started turns) (done : count ≤ i) (few-rules : count ≤ 8384) where
-  -- something has risen: once more
-  pub round-again : (clock ≡ started → ⊥) → Round rules count from 0 v k clock clock (turns + 1)
-  round-again n = record {
-    places = omega arith;
-    later = omega arith;
-    few = omega (arith, n, round .few, round .later);
-    bound = round .bound;
-    long = round .long;
-    ok = round .ok;
-    above = round .above;
-    held = λ q j low. absurd (omega arith);
-  }
+module _ {rules : List ℕ} {count : ℕ} {from : ℕ → ℕ} {i : ℕ} {v : Values} {k : List ℕ} {clock started turns end last : ℕ} (round : Round rules count from i v k clock started turns end last) (done : end ≤ i) (few-rules : count ≤ 8384) where
+  -- something has risen: once more, up to the last rise
+  pub round-again : (clock ≡ started → ⊥) → Round rules count from 0 v k clock clock (turns + 1) last last
+  round-again n =
+      let e : end ≡ count = round .whole n in
+      record {
+        places = omega arith;
+        ends = round .lasts;
+        lasts = round .lasts;
+        later = omega arith;
+        few = omega (arith, n, round .few, round .later);
+        bound = round .bound;
+        long = round .long;
+        ok = round .ok;
+        above = round .above;
+        since = λ j b c. absurd (omega arith);
+        held = λ q j b w. ⊎-elim (λ c. absurd (omega arith)) (λ c. round .since j c (omega (arith, e))) w;
+        whole = λ q. absurd (q refl);
+      }
 
   pub again-less : (clock ≡ started → ⊥) → left count 0 v clock clock < left count i v clock started
-  again-less n = rw (some-risen clock started (round .later) n, none-risen clock) (omega (arith, round .places))
+  again-less n = rw (some-risen clock started (round .later) n, none-risen clock) (omega (arith, round .places, round .ends))
 
   -- nothing has risen: all rules hold
   pub round-solved : clock ≡ started → Solves (itemForm rules count from) (valueAt v)
   round-solved q = record { derived = round .ok .sound; closed = closed }
     where
+      where-is : (j : ℕ) → Dec (j < i) → (j < i) ⊎ (end ≤ j)
+      where-is j (yes h) = inl h
+      where-is j (no h) = inr (omega arith)
+
       closed : (r : Item count) → gives (valueAt v) (itemForm rules count from r) ≤ valueAt v (itemForm rules count from r .head)
-      closed (word j h) = round .held q j (omega arith)
+      closed (word j h) = round .held q j h (where-is j (decLt j i))
       closed (start x) = omega (arith, round .above x)
 
 -- ---- the start
@@ -404,16 +435,20 @@ module _ (rules : List ℕ) (count taken : ℕ) (numbers : List ℕ) (sizes : Li
       go (no h) (no i) (yes j) = value-before _ x (omega arith) j ∙ sum-is x (x - 2816) (omega arith)
       go (no h) (no i) (no j) = value-through _ x (omega arith) ∙ sum-is x (x - 3328) (omega arith)
 
-  pub round-start : Round rules count from 0 v₀ k 0 0 1
+  pub round-start : Round rules count from 0 v₀ k 0 0 1 count 0
   round-start = record {
     places = omega arith;
+    ends = omega arith;
+    lasts = omega arith;
     later = omega arith;
     few = omega arith;
     bound = omega (arith, room-le (map valueOf sizes), sizes-long, room-le (map valueOf no-sums), sums-long);
     long = record { sizes-long = sizes-long; after-long = sums-long; before-long = sums-long; through-long = sums-long; causes-long = ap length e ∙ length-replicate {A = ℕ} 3840 65535 };
     ok = uncaused-ok (itemForm rules count from) (valueAt v₀) (at k) derived (λ x h. omega (arith, ap (λ (q : List ℕ). at q x) e, at-same 3840 65535 x h));
     above = λ x. omega (arith, start-is x);
-    held = λ q j low. absurd (omega arith);
+    since = λ j b c. absurd (omega arith);
+    held = λ q j b w. ⊎-elim (λ c. absurd (omega arith)) (λ c. absurd (omega arith)) w;
+    whole = λ q. refl;
   }
     where
       derived : (x : ℕ) → Derives (itemForm rules count from) x (valueAt v₀ x)

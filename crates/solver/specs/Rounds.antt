@@ -2,6 +2,7 @@
 use Prim.Native.Nat.{ℕ, _+_, _-_, _*_, _<_, _≤_, min}
 use mathlib.Core.Path.{_≡_}
 use mathlib.Core.List.{List, [], _∷_}
+use mathlib.Core.Logic.{_⊎_}
 use lib.ListN.{length}
 use Rattle.size.specs.Size.{unbounded}
 use Rattle.size.specs.Numbers.{at}
@@ -41,17 +42,26 @@ pub record Long (v : Values) (k : List ℕ) : Type 0 where
   pub through-long : length (v .through) ≡ 512
   pub causes-long : length k ≡ entryCount
 
--- A turn has come to rule i: values and causes keep the invariant, nothing is below what it started from, the clock cannot run over, and if
--- nothing has risen since the turn started, the rules so far hold.
-pub record Round (rules : List ℕ) (count : ℕ) (from : ℕ → ℕ) (i : ℕ) (v : Values) (k : List ℕ) (clock started turns : ℕ) : Type 0 where
-  pub places : i ≤ count
+-- The j-th rule holds.
+abbrev pub Held : List ℕ → Values → ℕ → Type 0
+Held rules v j = gives (valueAt v) (wordForm (at rules j)) ≤ valueAt v (headOf (at rules j))
+
+-- A turn has come to rule i: values and causes keep the invariant, nothing is below what it started from, and the clock cannot run over. The
+-- rules looked at since the last rise hold; `last` is the place behind it. If nothing has risen in this turn, the rules so far hold and those
+-- from `end` on: there it may stop. If something has, it goes on to the last rule.
+pub record Round (rules : List ℕ) (count : ℕ) (from : ℕ → ℕ) (i : ℕ) (v : Values) (k : List ℕ) (clock started turns end last : ℕ) : Type 0 where
+  pub places : i ≤ end
+  pub ends : end ≤ count
+  pub lasts : last ≤ count
   pub later : started ≤ clock
   pub few : turns ≤ started + 1
   pub bound : clock + roomOf v ≤ 251658240
   pub long : Long v k
   pub ok : Ok (itemForm rules count from) (valueAt v) (at k)
   pub above : (x : ℕ) → from x ≤ valueAt v x
-  pub held : clock ≡ started → (j : ℕ) → j < i → gives (valueAt v) (wordForm (at rules j)) ≤ valueAt v (headOf (at rules j))
+  pub since : (j : ℕ) → last ≤ j → j < i → Held rules v j
+  pub held : clock ≡ started → (j : ℕ) → j < count → (j < i) ⊎ (end ≤ j) → Held rules v j
+  pub whole : (clock ≡ started → ⊥) → end ≡ count
 
 -- What falls: with a rise what is left to rise, with a turn that raised something that it did, and with a rule those that are left in the turn.
 abbrev pub left : ℕ → ℕ → Values → ℕ → ℕ → ℕ

@@ -121,8 +121,8 @@ fn sum_of(base: u32, part: Size, other: usize, size: Size) -> Size
     if other < 2304 { sum.add(size) } else { sum }
 }
 
-// Goes round the rules, from sizes that are handed in and sums of zero, until a turn raises nothing. What is there at the start has no
-// causes. Whoever reads or writes an array of sizes in a loop has to own it, so the four are here.
+// Goes round the rules, from sizes that are handed in and sums of zero, until all have been looked at since the last rise. What is there at
+// the start has no causes. Whoever reads or writes an array of sizes in a loop has to own it, so the four are here.
 pub(crate) fn go_round(
     rules: &[u64],
     count: usize,
@@ -147,10 +147,12 @@ pub(crate) fn go_round(
     let mut through = [Size::ZERO; 512];
     let mut clock: u32 = 0;
     let mut started: u32 = 0;
+    let mut end = count;
+    let mut last: usize = 0;
     *turns = 1;
     let mut i: usize = 0;
     loop {
-        if i < count {
+        if i < end {
             let rule = unpacked(rules[i]);
             let x = rule.head;
             let y = rule.part;
@@ -170,6 +172,8 @@ pub(crate) fn go_round(
             let sum = sum_of(rule.base, part, rule.other, sizes[q]);
             if asks_more(old, sum) {
                 let new = risen(causes, stamps, &mut clock, x, y, rule.second, sum);
+                end = count;
+                last = i + 1;
                 if x < 2304 {
                     sizes[x] = new;
                 } else if x < 2816 {
@@ -190,6 +194,7 @@ pub(crate) fn go_round(
             started = clock;
             stamps[3840] = stamp(started);
             *turns += 1;
+            end = last;
             i = 0;
         }
     }

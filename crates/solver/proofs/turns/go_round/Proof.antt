@@ -7,16 +7,16 @@ use lib.ListN.{length, length-replicate, length-set}
 use borrow.Author.Needs.{needs, scaled-fits}
 use Rattle.solver.specs.Values.{valuesOf, startsFrom}
 use Rattle.solver.specs.Rounds.{Round, left}
-use Rattle.solver.proofs.Rounds.{second-low, low-as, at-head-of, at-part-of, size-read, sum-read, next-fits, as-long, ticks, stored-size, stored-after, stored-before, stored-through, rule-kept, rule-risen, round-start, round-again, again-less, round-solved}
+use Rattle.solver.proofs.Rounds.{second-low, low-as, at-head-of, at-part-of, size-read, sum-read, next-fits, rule-there, rule-fits, rule-read, as-long, ticks, stored-size, stored-after, stored-before, stored-through, rule-kept, rule-risen, round-start, round-again, again-less, round-solved}
 use Rattle.solver.proofs.turns.go_round.Statement.{statement}
 use Rattle.solver.proofs.turns.go_round.Tie as tie
 
 abbrev Inv-loop : tie.InvT-loop
-Inv-loop rules count nodes taken numbers causes₀ stamps₀ afters₀ befores₀ turns₀ sizes₀ after₀ before₀ through₀ clock₀ started₀ i₀ causes stamps afters befores turns sizes after before through clock started i =
-    Round rules count (startsFrom taken numbers) i (valuesOf sizes after before through) causes clock started turns × (length stamps ≡ 3841) × (afters ≡ afters₀) × (befores ≡ befores₀)
+Inv-loop rules count nodes taken numbers causes₀ stamps₀ afters₀ befores₀ turns₀ sizes₀ after₀ before₀ through₀ clock₀ started₀ end₀ last₀ i₀ causes stamps afters befores turns sizes after before through clock started end last i =
+    Round rules count (startsFrom taken numbers) i (valuesOf sizes after before through) causes clock started turns end last × (length stamps ≡ 3841) × (afters ≡ afters₀) × (befores ≡ befores₀)
 
 abbrev μ-loop : tie.MeasureT-loop
-μ-loop rules count nodes taken numbers causes₀ stamps₀ afters₀ befores₀ turns₀ sizes₀ after₀ before₀ through₀ clock₀ started₀ i₀ causes stamps afters befores turns sizes after before through clock started i =
+μ-loop rules count nodes taken numbers causes₀ stamps₀ afters₀ befores₀ turns₀ sizes₀ after₀ before₀ through₀ clock₀ started₀ end₀ last₀ i₀ causes stamps afters befores turns sizes after before through clock started end last i =
     left count i (valuesOf sizes after before through) clock started
 
 -- two answers from one argument
@@ -33,16 +33,23 @@ loop-holds c =
     (round-start (a .rules .now) (a .count) (a .taken) (a .numbers .now) (c .starting .result) (a .causes .now) (p .1 .0 .0) (p .1 .0 .2) (c .starting .ensures) (p .1 .1 .0 .0), p .1 .1 .0 .1, refl, refl)
 
 mul-unpacked : tie.Need-mul-unpacked Inv-loop μ-loop
-mul-unpacked c = search needs
+mul-unpacked c =
+    let L = c .before .loop in
+    let p = c .before .before .before .before .before .before .before .before .before .pre in
+    rule-fits (rule-there (L .inv .0) (c .if1 .taken)) (p .0 .1)
 
 shared-slice-read-unpacked : tie.Need-shared-slice-read-unpacked Inv-loop μ-loop
-shared-slice-read-unpacked c = search needs
+shared-slice-read-unpacked c =
+    let L = c .before .before .loop in
+    let p = c .before .before .before .before .before .before .before .before .before .before .pre in
+    rule-read (rule-there (L .inv .0) (c .before .if1 .taken)) (p .0 .0)
 
 unpacked-requires : tie.Need-unpacked-requires Inv-loop μ-loop
 unpacked-requires c κs =
     let L = c .before .before .loop in
     let p = c .before .before .before .before .before .before .before .before .before .before .pre in
-    (p .0 .2 .heads (L .i) (c .before .if1 .taken), p .0 .2 .parts (L .i) (c .before .if1 .taken))
+    let here = rule-there (L .inv .0) (c .before .if1 .taken) in
+    (p .0 .2 .heads (L .i) here, p .0 .2 .parts (L .i) here)
 
 mul-old : tie.Need-mul-old Inv-loop μ-loop
 mul-old c = scaled-fits _ 2304 8 (c .if2 .taken) (lit< tt)
@@ -117,10 +124,18 @@ risen-requires c κs =
     let L = I .before .loop in
     let u = U .unpacked .ensures in
     let named = I .before .before .before .before .before .before .before .before .before .pre .0 .2 in
-    let part = named .parts (L .i) (I .if1 .taken) in (
+    let here = rule-there (L .inv .0) (I .if1 .taken) in
+    let part = named .parts (L .i) here in (
       (L .inv .0 .long .causes-long, L .inv .1, ticks (L .inv .0)),
-      (low-as (u .head-is) (named .heads (L .i) (I .if1 .taken)), low-as (u .part-is) part, low-as (u .second-is) (second-low _ part)),
+      (low-as (u .head-is) (named .heads (L .i) here), low-as (u .part-is) part, low-as (u .second-is) (second-low _ part)),
     )
+
+add-last : tie.Need-add-last Inv-loop μ-loop
+add-last c =
+    let I = c .before .before .before .before .before .before .before .before .before .before .before .before .before .before .before .before in
+    let L = I .before .loop in
+    let p = I .before .before .before .before .before .before .before .before .before .pre in
+    next-fits (rule-there (L .inv .0) (I .if1 .taken)) (p .0 .1)
 
 mul-sizes : tie.Need-mul-sizes Inv-loop μ-loop
 mul-sizes c = scaled-fits _ 2304 8 (c .if5 .taken) (lit< tt)
@@ -161,7 +176,8 @@ array-set-from-through c =
 add-i : tie.Need-add-i Inv-loop μ-loop
 add-i c =
     let p = c .before .before .before .before .before .before .before .before .before .before .before .before .before .before .before .before .before .pre in
-    next-fits (c .before .before .before .before .before .before .before .before .if1 .taken) (p .0 .1)
+    let L = c .before .before .before .before .before .before .before .before .before .loop in
+    next-fits (rule-there (L .inv .0) (c .before .before .before .before .before .before .before .before .if1 .taken)) (p .0 .1)
 
 -- one rule on: what falls, and that the invariant is kept
 rule-over : tie.Need-loop-less Inv-loop μ-loop × tie.Need-loop-again Inv-loop μ-loop
@@ -175,18 +191,18 @@ rule-over =
     let named = I .before .before .before .before .before .before .before .before .before .pre .0 .2 in
     let u = U .unpacked .ensures in
     let r = U .unpacked .result in
-    let low = named .heads (L .i) (I .if1 .taken) in
+    let low = named .heads (L .i) (rule-there (L .inv .0) (I .if1 .taken)) in
     let long = L .inv .0 .long in
     let more = c .before .asks-more .ensures in
     let at-head = at-head-of u in
     let old = ⊎-elim (λ w. size-read (L .sizes) (L .after) (L .before) (L .through) (w .0 .taken) (w .2)) (λ w. sum-read (L .sizes) (L .after) (L .before) (L .through) (r .headsum) at-head (w .0 .left) (w .5) (w .4 .ensures)) (c .before .before .before .before .before .if2 .came) in
     let part = ⊎-elim (λ w. size-read (L .sizes) (L .after) (L .before) (L .through) (w .0 .taken) (w .2)) (λ w. sum-read (L .sizes) (L .after) (L .before) (L .through) (r .partsum) (at-part-of u) (w .0 .left) (w .5) (w .4 .ensures)) (c .before .before .before .before .if3 .came) in
     let next =
-    ⊎-elim (λ w. rule-risen (L .sizes) (L .after) (L .before) (L .through) (L .inv .0) (I .if1 .taken) low u (c .before .before .before .before .before .if2 .old) (c .before .before .before .before .if3 .part) (S .sum-of .result) old part (S .sum-of .ensures) more (w .0 .taken) (stored-size (L .sizes) (L .after) (L .before) (L .through) long (r .head) (w .4 .result) (w .9 .taken) (w .12) (w .13) (w .14) (w .15)) (w .4 .ensures) (w .10) (w .16))
-    (⊎-elim (λ w. rule-risen (L .sizes) (L .after) (L .before) (L .through) (L .inv .0) (I .if1 .taken) low u (c .before .before .before .before .before .if2 .old) (c .before .before .before .before .if3 .part) (S .sum-of .result) old part (S .sum-of .ensures) more (w .0 .taken) (stored-after (L .sizes) (L .after) (L .before) (L .through) long (r .head) (w .4 .result) (r .headsum) at-head (w .9 .left) (w .10 .taken) (w .13) (w .14) (w .15) (w .16)) (w .4 .ensures) (w .11) (w .17))
-    (⊎-elim (λ w. rule-risen (L .sizes) (L .after) (L .before) (L .through) (L .inv .0) (I .if1 .taken) low u (c .before .before .before .before .before .if2 .old) (c .before .before .before .before .if3 .part) (S .sum-of .result) old part (S .sum-of .ensures) more (w .0 .taken) (stored-before (L .sizes) (L .after) (L .before) (L .through) long (r .head) (w .4 .result) (r .headsum) at-head (w .9 .left) (w .10 .left) (w .11 .taken) (w .14) (w .15) (w .16) (w .17)) (w .4 .ensures) (w .12) (w .18))
-    (⊎-elim (λ w. rule-risen (L .sizes) (L .after) (L .before) (L .through) (L .inv .0) (I .if1 .taken) low u (c .before .before .before .before .before .if2 .old) (c .before .before .before .before .if3 .part) (S .sum-of .result) old part (S .sum-of .ensures) more (w .0 .taken) (stored-through (L .sizes) (L .after) (L .before) (L .through) long (r .head) (w .4 .result) (r .headsum) at-head (low-as (u .head-is) low) (w .9 .left) (w .10 .left) (w .11 .left) (w .14) (w .15) (w .16) (w .17)) (w .4 .ensures) (w .12) (w .18))
-    (λ w. rule-kept (L .sizes) (L .after) (L .before) (L .through) (L .inv .0) (I .if1 .taken) low u (c .before .before .before .before .before .if2 .old) (c .before .before .before .before .if3 .part) (S .sum-of .result) old part (S .sum-of .ensures) more (w .0 .left) (w .1) (w .3) (w .4) (w .5) (w .6) (w .7))))) (c .if4 .came) in
+    ⊎-elim (λ w. rule-risen (L .sizes) (L .after) (L .before) (L .through) (L .inv .0) (I .if1 .taken) low u (c .before .before .before .before .before .if2 .old) (c .before .before .before .before .if3 .part) (S .sum-of .result) old part (S .sum-of .ensures) more (w .0 .taken) (stored-size (L .sizes) (L .after) (L .before) (L .through) long (r .head) (w .4 .result) (w .9 .taken) (w .12) (w .13) (w .14) (w .15)) (w .4 .ensures) (w .10) (w .16) (w .17) (w .18))
+    (⊎-elim (λ w. rule-risen (L .sizes) (L .after) (L .before) (L .through) (L .inv .0) (I .if1 .taken) low u (c .before .before .before .before .before .if2 .old) (c .before .before .before .before .if3 .part) (S .sum-of .result) old part (S .sum-of .ensures) more (w .0 .taken) (stored-after (L .sizes) (L .after) (L .before) (L .through) long (r .head) (w .4 .result) (r .headsum) at-head (w .9 .left) (w .10 .taken) (w .13) (w .14) (w .15) (w .16)) (w .4 .ensures) (w .11) (w .17) (w .18) (w .19))
+    (⊎-elim (λ w. rule-risen (L .sizes) (L .after) (L .before) (L .through) (L .inv .0) (I .if1 .taken) low u (c .before .before .before .before .before .if2 .old) (c .before .before .before .before .if3 .part) (S .sum-of .result) old part (S .sum-of .ensures) more (w .0 .taken) (stored-before (L .sizes) (L .after) (L .before) (L .through) long (r .head) (w .4 .result) (r .headsum) at-head (w .9 .left) (w .10 .left) (w .11 .taken) (w .14) (w .15) (w .16) (w .17)) (w .4 .ensures) (w .12) (w .18) (w .19) (w .20))
+    (⊎-elim (λ w. rule-risen (L .sizes) (L .after) (L .before) (L .through) (L .inv .0) (I .if1 .taken) low u (c .before .before .before .before .before .if2 .old) (c .before .before .before .before .if3 .part) (S .sum-of .result) old part (S .sum-of .ensures) more (w .0 .taken) (stored-through (L .sizes) (L .after) (L .before) (L .through) long (r .head) (w .4 .result) (r .headsum) at-head (low-as (u .head-is) low) (w .9 .left) (w .10 .left) (w .11 .left) (w .14) (w .15) (w .16) (w .17)) (w .4 .ensures) (w .12) (w .18) (w .19) (w .20))
+    (λ w. rule-kept (L .sizes) (L .after) (L .before) (L .through) (L .inv .0) (I .if1 .taken) low u (c .before .before .before .before .before .if2 .old) (c .before .before .before .before .if3 .part) (S .sum-of .result) old part (S .sum-of .ensures) more (w .0 .left) (w .1) (w .3) (w .4) (w .5) (w .6) (w .7) (w .8) (w .9))))) (c .if4 .came) in
     let stamps-long =
     ⊎-elim (λ w. ap length (w .11) ∙ w .4 .kept .1 .0 ∙ L .inv .1)
     (⊎-elim (λ w. ap length (w .12) ∙ w .4 .kept .1 .0 ∙ L .inv .1)
@@ -302,6 +318,7 @@ go-round-spec =
     sum-of-requires
     asks-more-requires
     risen-requires
+    add-last
     mul-sizes
     array-set-from-sizes
     mul-after
