@@ -1,5 +1,7 @@
 // Makes the calls that a script asks for, as `script` reads it, and prints what they answer. It is the whole of two
 // programs, `worked_cases` and `counts`: they differ in their scripts.
+#![tactic(auto)]
+
 mod cases;
 mod counts;
 

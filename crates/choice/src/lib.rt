@@ -1,4 +1,6 @@
 // The best choice. Document 01, "Preference and the best choice".
+#![tactic(auto)]
+
 mod admit;
 
 ghost use Rattle.std.specs.Prelude.{◌≡◌, ◌≤◌, length};

@@ -1,5 +1,7 @@
 // Counts the passes and the trials that tables take on which a plain search would crawl: `calls` makes the calls of the
 // script.
+#![tactic(auto)]
+
 fn main() {
     calls::run_input();
 }

@@ -1,4 +1,6 @@
 // How much work the calls do, for the benchmark: trials of the search, and passes over the rules. Nothing is promised of the counts.
+#![tactic(auto)]
+
 use sizes::Answer;
 
 // Of the best-choice call: 0 and the counts, or the refusal's number.

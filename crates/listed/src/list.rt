@@ -23,7 +23,7 @@ fn packed(rule: Rule) -> u64
 }
 
 // The rules of a node, those of an edge that run with it, the one that runs against it, and those of a function.
-#[derive(Drop)]
+#[derive(Clone, Copy)]
 pub(crate) enum Group {
     Node,
     Edge,
@@ -32,7 +32,7 @@ pub(crate) enum Group {
 }
 
 // A rule by its kind and number.
-#[derive(Drop)]
+#[derive(Clone, Copy)]
 pub(crate) struct Slot {
     pub kind: Kind,
     pub number: usize,

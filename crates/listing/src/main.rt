@@ -1,4 +1,6 @@
 // Reads a task table from standard input and prints its listing. Document 01, "The listing program".
+#![tactic(auto)]
+
 use libc::STDOUT_FILENO;
 
 fn main() {

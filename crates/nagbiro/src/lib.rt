@@ -1,4 +1,6 @@
 // The C interface: the calls of the crates below, for a program in C or Rust. include/nagbiro.h declares them.
+#![tactic(auto)]
+
 ghost use Rattle.std.specs.Prelude.{◌≡◌, ◌++◌, length, take, drop};
 ghost use Rattle.table.specs.Answer.{outcome};
 ghost use Rattle.sync.specs.Words.{Eight};

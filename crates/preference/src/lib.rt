@@ -1,4 +1,6 @@
 // The preference order of spawns. Document 01, "Preference and the best choice".
+#![tactic(auto)]
+
 mod depth;
 pub mod order;
 
@@ -10,7 +12,7 @@ use order::in_order;
 use table::{Checked, check};
 
 // What the table's check found, and the spawns in the preference order: the first `count` numbers, with zeros behind them.
-#[derive(Drop)]
+#[derive(Clone, Copy)]
 pub struct Arranged {
     pub checked: Checked,
     pub count: usize,

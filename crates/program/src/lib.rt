@@ -1,4 +1,6 @@
 // Readers of the program that an accepted table describes, for the crates above: each gives a field of `program_of`, and its range.
+#![tactic(auto)]
+
 ghost use Rattle.std.specs.Prelude.{◌≡◌, ◌<◌};
 ghost use Rattle.table.specs.Record.{edge_from, edge_to};
 ghost use Rattle.table.specs.Answer.{Ready};

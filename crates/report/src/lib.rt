@@ -1,4 +1,6 @@
 // Answers as text on standard output, in document 01's words. What is printed is tested, not proved.
+#![tactic(auto)]
+
 ghost use Rattle.std.specs.Prelude.{◌≤◌, ◌≡◌, length};
 
 use libc::STDOUT_FILENO;
@@ -85,7 +87,7 @@ fn old_verdict(verdicts: &[u8], i: usize) -> usize
 }
 
 // How many places of a verdict buffer and of a sizes buffer have their old content.
-#[derive(Drop)]
+#[derive(Clone, Copy)]
 pub struct Left {
     pub verdicts: usize,
     pub sizes: usize,

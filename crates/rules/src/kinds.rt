@@ -19,7 +19,7 @@ use table::Counts;
 
 // Which rules: of the sizes of nodes that rest on a target; of a sum of nodes, where it starts, along the edges, and where it is done;
 // of Total, by nodes and by edges.
-#[derive(Drop)]
+#[derive(Clone, Copy)]
 pub enum Kind {
     Target,
     Start(Sum),
@@ -30,7 +30,7 @@ pub enum Kind {
 }
 
 // A rule, if it is there. `other` is a size, or 4095 where there is no other entry.
-#[derive(Drop)]
+#[derive(Clone, Copy)]
 pub struct Rule {
     pub on: bool,
     pub head: usize,

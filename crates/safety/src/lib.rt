@@ -1,4 +1,6 @@
 // Safety of a choice. Document 01, "Safety".
+#![tactic(auto)]
+
 ghost use Rattle.std.specs.Prelude.{◌≡◌, ◌≤◌, length};
 ghost use Rattle.table.specs.Answer.{Ready};
 ghost use Rattle.table.specs.Program.{program_of};
@@ -17,7 +19,7 @@ use sizes::trials::{Prepared, copy, find_from};
 use table::Counts;
 
 // What the call for one choice comes to: `Answers` in specs/Call.antt says what each case stands for.
-#[derive(Drop)]
+#[derive(Clone, Copy)]
 pub enum Answer {
     IsSafe,
     IsUnsafe,

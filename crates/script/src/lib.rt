@@ -14,6 +14,8 @@
 // buffer of BUFFER numbers. Such as
 //
 //     ? 7 40 0 3 0 3      a choice of 7 bytes, 0 3 0 3 0 0 0, and a buffer of 40 numbers
+#![tactic(auto)]
+
 ghost use Rattle.std.specs.Prelude.{◌+◌, ◌-◌, ◌≤◌, min, length};
 
 // Where the line at `at` ends: at its line feed, or at the end of the text.
@@ -147,14 +149,14 @@ fn put_choice(out: &mut [u8], line: &[u8]) -> usize {
 }
 
 // A part of the text.
-#[derive(Drop)]
+#[derive(Clone, Copy)]
 pub struct Words {
     pub from: usize,
     pub to: usize,
 }
 
 // What the lines up to some place of the text have said.
-#[derive(Drop)]
+#[derive(Clone, Copy)]
 pub struct Run {
     // The first byte of the last line, which says what kind of line it is.
     pub mark: u8,

@@ -1,4 +1,6 @@
 // The search for the best choice: two walks over the spawns, in the preference order.
+#![tactic(auto)]
+
 mod trials;
 mod walks;
 

@@ -1,8 +1,10 @@
 // A size: "either a number of bytes up to 65,535 or unbounded".
+#![tactic(auto)]
+
 ghost use Rattle.std.specs.Prelude.{◌≡◌, ◌+◌, max};
 ghost use Rattle.size.specs.Size.{size_of, value_of};
 
-#[derive(Drop)]
+#[derive(Clone, Copy)]
 pub enum Size {
     Bytes(u32),
     Unbounded,

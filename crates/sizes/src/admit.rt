@@ -57,14 +57,14 @@ fn judge(t: &[u8], of: Counts, choice: &[u8], buffer: usize) -> Answer
 }
 
 // What is known of a table: its counts, and what only the crates below look into.
-#[derive(Drop)]
+#[derive(Clone, Copy)]
 pub struct Seen {
     pub of: Counts,
     pub known: Known,
 }
 
 // A call's refusal, if there is one, and what is known of its table.
-#[derive(Drop)]
+#[derive(Clone, Copy)]
 pub struct Admitted {
     pub answer: Answer,
     pub seen: Seen,

@@ -1,4 +1,6 @@
 // The sizes of a choice. Document 01, "Sizes and their rules".
+#![tactic(auto)]
+
 pub mod admit;
 pub mod find;
 pub mod trials;
@@ -11,7 +13,7 @@ use admit::admit;
 use find::find;
 
 // What a call comes to: `result_of` in specs/Call.antt says what each case stands for.
-#[derive(Drop)]
+#[derive(Clone, Copy)]
 pub enum Answer {
     Done,
     Refused(u32, usize),

@@ -15,7 +15,7 @@ use rules::Known;
 use table::Counts;
 
 // A table that is prepared for trials; what stands in it besides the counts is for this crate alone.
-#[derive(Drop)]
+#[derive(Clone, Copy)]
 pub struct Prepared {
     pub of: Counts,
     pub known: Known,

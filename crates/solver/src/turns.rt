@@ -38,7 +38,7 @@ fn write_sums(sums: [Size; 512], count: usize, out: &mut [u32])
 
 // A rule as numbers: entry `head` is at least `base`, the entry `part` and the size `other`; from 2304 on that is none. Beside them the
 // places where sums and the other size stand in their arrays, and the second entry of the body, or the first again.
-#[derive(Drop)]
+#[derive(Clone, Copy)]
 struct Rule {
     pub head: usize,
     pub base: u32,

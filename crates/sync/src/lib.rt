@@ -1,4 +1,6 @@
 // The synchronising nodes of a task table. Document 01, "Synchronising nodes".
+#![tactic(auto)]
+
 mod collect;
 mod search;
 mod settle;
@@ -13,7 +15,7 @@ use settle::settle;
 use table::Checked;
 
 // What the table's check found, and two sets of nodes, both empty where it was refused.
-#[derive(Drop)]
+#[derive(Clone, Copy)]
 pub struct Answer {
     pub checked: Checked,
     // The synchronising nodes.

@@ -12,7 +12,7 @@ use program::{edge_from, edge_to};
 use table::Counts;
 
 // A set, and whether a sweep has added to it.
-#[derive(Drop)]
+#[derive(Clone, Copy)]
 pub(crate) struct Growth {
     pub set: [u64; 8],
     pub grew: bool,

@@ -12,7 +12,7 @@ use search_order::edges::order_edges;
 use table::Counts;
 
 // A set, and the nodes that it lets paths through to.
-#[derive(Drop)]
+#[derive(Clone, Copy)]
 pub(crate) struct State {
     pub set: [u64; 8],
     pub reached: [u64; 8],

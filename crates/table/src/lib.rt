@@ -1,4 +1,6 @@
 // Task tables: reading and checking them. Document 01, "The task table" and "Refused tables".
+#![tactic(auto)]
+
 mod checks;
 pub mod record;
 mod scan;
@@ -9,7 +11,7 @@ ghost use Rattle.table.specs.Answer.{outcome, outcome_of};
 use scan::{first, first_too_many, tally};
 
 // How many records there are of each kind.
-#[derive(Drop)]
+#[derive(Clone, Copy)]
 pub struct Counts {
     pub functions: usize,
     pub nodes: usize,
@@ -17,14 +19,14 @@ pub struct Counts {
 }
 
 // What a check of a table finds: `outcome_of` in specs/Answer.antt says what each case stands for.
-#[derive(Drop)]
+#[derive(Clone, Copy)]
 pub enum Checked {
     Accepted(Counts),
     Refused(u32, usize),
 }
 
 // A test of one record: `test_of` in specs/Scan.antt says which.
-#[derive(Drop)]
+#[derive(Clone, Copy)]
 enum Test {
     Unlisted,
     OutOfOrder,

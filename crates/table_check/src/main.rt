@@ -1,4 +1,6 @@
 // Reads a task table from standard input, at most 12,800 bytes of it, and prints whether it is accepted.
+#![tactic(auto)]
+
 use libc::STDOUT_FILENO;
 
 fn main() {

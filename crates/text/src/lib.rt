@@ -1,4 +1,6 @@
 // The listing of a table as text. Document 01, "The listing program".
+#![tactic(auto)]
+
 mod append;
 mod lines;
 mod rows;
@@ -16,7 +18,7 @@ use table::{Checked, Counts, check};
 
 // A text: the first `length` of its bytes. There is room for the largest table, with 20 digits for each number: 64 lines of
 // 107 bytes and 512 of 117.
-#[derive(Drop)]
+#[derive(Clone, Copy)]
 pub struct Text {
     pub bytes: [u8; 66752],
     pub length: usize,
