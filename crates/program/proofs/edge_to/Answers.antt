@@ -1,0 +1,14 @@
+use native.Mathlib.Omega.{arith}
+use Rattle.table.proofs.Ready.{to_given, few_records}
+use Rattle.program.proofs.edge_to.Goals as goal
+
+pub overflow_add-of : goal.overflow_add-of
+overflow_add-of c = omega (arith, few_records c.args.t.now c.args.of c.requires.0)
+
+pub overflow_add-of-2 : goal.overflow_add-of-2
+overflow_add-of-2 c = omega (arith, few_records c.args.t.now c.args.of c.requires.0)
+
+pub returns : goal.returns
+returns c =
+    let a = c.args in
+    to_given a.t.now a.of c.requires.0 a.e c.field_b.result c.requires.1 c.field_b.ensures.0
