@@ -20,7 +20,7 @@ use Rattle.size.proofs.Maps.{map_set, map_at, at_zeros, map_zeros}
 use Rattle.solver.specs.System.{Form, sum_of, gives, Derives, none, rule, Solves}
 use Rattle.solver.specs.Words.{entry_count, head_of, part_of, other_of, base_of, others, second_of, word_form, Item, word, start, item_form}
 use Rattle.solver.specs.Causes.{Ok, Chain, uncaused, Risen, rises, leaps}
-use Rattle.solver.specs.Values.{Values, values_of, size_place, sum_place, picked, picked_sum, value_at, starts_from}
+use Rattle.solver.specs.Values.{Values, values_of, size_place, sum_place, picked_sum, value_at, starts_from}
 use Rattle.solver.specs.Rounds.{Unpacked, room, room_of, Long, Held, Round, left}
 use Rattle.solver.specs.declared.turns.Rule.{Rule}
 use Rattle.solver.proofs.Values.{value_size, value_after, value_before, value_through, value_picked, value_same, starts_taken, starts_zero}
