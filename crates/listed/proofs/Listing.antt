@@ -3,10 +3,10 @@ use Prim.Native.Nat.{ℕ, zero, suc, ◌+◌, ◌-◌, ◌*◌, ◌/◌, ◌%◌
 use mathlib.Core.Path.{◌≡◌, refl, sym, ap, ap₂, ◌∙◌, subst}
 use mathlib.Core.Bool.{true, false}
 use mathlib.Core.List.{List}
-use mathlib.Core.Logic.{◌⊎◌, inl, inr, ⊎_elim}
+use mathlib.Core.Logic.{◌⊎◌, inl, inr}
 use native.Mathlib.Omega.{arith}
 use native.Mathlib.Decide.{ℕ_discrete, dec_lt}
-use lib.ListN.{length, set, length-set}
+use lib.ListN.{length, set}
 use lib.Seq.{get_or-set_same, get_or-set_other}
 use Rattle.table.specs.Record.{edge_from, edge_to}
 use Rattle.table.specs.Answer.{Ready}
@@ -16,20 +16,18 @@ use Rattle.table.proofs.Booleans.{not_both}
 use Rattle.table.proofs.Laws.{edge_which}
 use Rattle.table.proofs.Ready.{functions_are, nodes_are, edge_is}
 use Rattle.sync.specs.Words.{member}
-use Rattle.order.specs.Order.{Ordered}
 use Rattle.rule_order.specs.Orders.{Orders}
 use Rattle.size.specs.Numbers.{at}
-use Rattle.rules.specs.System.{Form, RuleOf, steps, takes, step_form, total_edge_form, target_form, form_of, start, step_on, end, total_node, total_edge, target_of}
+use Rattle.rules.specs.System.{RuleOf, steps, takes, step_form, total_edge_form, target_form, form_of, start, step_on, end, total_node, total_edge, target_of}
 use Rattle.listed.specs.Listed.{given}
-use Rattle.rules.specs.Numbered.{count_of, on_at, form_at, Means}
-use Rattle.listed.specs.Listed.{node_kind, node_number, edge_kind, function_kind, places_of, kind_at, number_at, place_at, Progress, done, up_to, blocks, Source, source, Says, Placed, Listed, Listing, Lengthens, Lists}
-use Rattle.solver.specs.Words.{head_of, part_of, other_of, base_of, Named}
+use Rattle.rules.specs.Numbered.{count_of, on_at, form_at}
+use Rattle.listed.specs.Listed.{node_kind, node_number, edge_kind, function_kind, places_of, kind_at, number_at, place_at, Progress, done, up_to, blocks, Source, source, Says, Placed, Listed, Listing, Lists}
+use Rattle.solver.specs.Words.{Named}
 use Rattle.rules.specs.declared.Known.{Known}
 use Rattle.listed.specs.declared.list.Group.{Group}
 use Rattle.listed.specs.declared.list.Group.TheVariants.{Node, Edge, Back, Function}
 use Rattle.rules.specs.declared.kinds.Kind.{Kind}
 use Rattle.rules.specs.declared.kinds.Kind.TheVariants.{Target, Start, Step, End, TotalNode, TotalEdge}
-use Rattle.rules.specs.declared.sums.Sum.{Sum}
 use Rattle.rules.specs.declared.sums.Sum.TheVariants.{After, Before, Through}
 
 -- ---- places
@@ -255,5 +253,5 @@ module _ (t choice : List ℕ) (known : Known) (ready : Ready t known.of) where
     pub all_named : Named rules count
     all_named = record {
       heads = λ j h. (d.each j h).4.head_low;
-      parts = λ j h. (d.each j h).4.Part-low;
+      parts = λ j h. (d.each j h).4.part_low;
     }

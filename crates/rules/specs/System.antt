@@ -1,5 +1,5 @@
 -- The rules as a finite system: sums along open paths are kept for each node, and each rule adds at most two entries up. Helps proofs only.
-use Rattle.std.specs.Prelude.{ℕ, ◌+◌, ◌*◌, ◌<◌, ◌≤◌, ◌≡◌, List, [], ◌∷◌, Bool, true, cond, not, ◌&&◌, ◌||◌, eqb, leb}
+use Rattle.std.specs.Prelude.{ℕ, ◌+◌, ◌*◌, ◌<◌, ◌≤◌, ◌≡◌, [], ◌∷◌, Bool, true, cond, not, ◌&&◌, ◌||◌, eqb, leb}
 use Rattle.table.specs.Record.{call, spawn}
 use Rattle.table.specs.Program.{Program}
 use Rattle.solver.specs.System.{Derives, Solves}

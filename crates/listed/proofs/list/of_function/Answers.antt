@@ -1,0 +1,17 @@
+use Prim.Native.Nat.{suc, ◌-◌}
+use mathlib.Core.Path.{◌≡◌, sym, ap}
+use native.Mathlib.Omega.{arith}
+use Rattle.listed.specs.Listed.{function_kind}
+use Rattle.listed.proofs.list.of_function.Goals as goal
+
+pub returns-in-0 : goal.returns-in-0
+returns-in-0 c = sym (ap function_kind c.in-0.is)
+
+pub returns-in-1 : goal.returns-in-1
+returns-in-1 c = sym (ap function_kind c.in-1.is)
+
+pub returns-in_default : goal.returns-in_default
+returns-in_default c =
+    let a = c.args.c in
+    let e : a ≡ suc (suc (a - 2)) = omega arith in
+    sym (ap function_kind e)
