@@ -9,7 +9,7 @@ use Rattle.table.specs.Refusal.{Check, Refusal, over, refusal}
 use Rattle.table.specs.Checks.{checks, Accepted}
 use Rattle.table.specs.Answer.{outcome, outcome_for}
 use Rattle.table.proofs.Refusals.{refusal_pass, refusal_here}
-use Rattle.sizes.specs.Call.{Call, done, result, result_for, call_checks, choice_checks}
+use Rattle.sizes.specs.Call.{Call, done, call_result, result_for, call_checks, choice_checks}
 use Rattle.sizes.proofs.Calls.{told_done}
 use Rattle.choice.specs.Call.{BestCall, best_result, best_checks, buffer_checks}
 use Rattle.nagbiro.specs.Codes.{table_result, code_of}
@@ -59,8 +59,8 @@ unfolding outcome
 table_zero t e = none_zero t checks table_numbered (same_code t (refusal checks t) ∙ e)
 
 -- the call for one choice
-pub choice_zero : (x : Call) → code_of (result x) ≡ 0 → done ≡ result x
-unfolding result
+pub choice_zero : (x : Call) → code_of (call_result x) ≡ 0 → done ≡ call_result x
+unfolding call_result
 choice_zero x e = told_done call_checks x (none_zero x call_checks choice_numbered e)
 
 -- the best-choice call

@@ -4,7 +4,7 @@ use Rattle.table.specs.Answer.{Outcome, accepted, refused}
 use Rattle.table.specs.Program.{Program, program_of}
 use Rattle.sync.specs.Synchronising.{Synchronising}
 use Rattle.sync.specs.Words.{Eight, member}
-use Rattle.sizes.specs.Call.{Call, Result, choice_of, done, result}
+use Rattle.sizes.specs.Call.{Call, Result, choice_of, done, call_result}
 use Rattle.sizes.specs.Call.{refused as call-refused}
 use Rattle.safety.specs.Safety.{Safe}
 
@@ -32,4 +32,4 @@ JudgesFor done x old new =
 JudgesFor (call-refused number place) x old new = new ≡ old
 
 abbrev pub Judges : Call → ℕ → ℕ → Type 0
-Judges x old new = JudgesFor (result x) x old new
+Judges x old new = JudgesFor (call_result x) x old new

@@ -4,7 +4,7 @@
 ghost use Rattle.std.specs.Prelude.{◌≡◌, ◌++◌, length, take, drop};
 ghost use Rattle.table.specs.Answer.{outcome};
 ghost use Rattle.sync.specs.Words.{Eight};
-ghost use Rattle.sizes.specs.Call.{result, Leaves};
+ghost use Rattle.sizes.specs.Call.{call_result, Leaves};
 ghost use Rattle.sizes.specs.Known.{call};
 ghost use Rattle.choice.specs.Call.{best_call, best_result, LeavesBoth};
 ghost use Rattle.nagbiro.specs.Codes.{table_result, code_of, Told, answer_of};
@@ -16,8 +16,8 @@ use table::{Checked, check};
 // Checks a table: 0 and its numbers of functions, nodes and edges in a, b and c; or the refusal's number, and its place in a.
 #[unsafe(no_mangle)]
 pub extern "C" fn nagbiro_check(t: &[u8], a: &mut usize, b: &mut usize, c: &mut usize) -> u32
-    ensures* r_value { λ r. ⌜ r ≡ code_of (table_result (outcome t.now)) ⌝ }
-    ensures* fact { λ _. ⌜ Counted (outcome t.now) b.old c.old a.new b.new c.new ⌝ }
+    ensures code { result ≡ code_of (table_result (outcome t.now)) }
+    ensures counts { Counted (outcome t.now) b.old c.old a.new b.new c.new }
 {
     match check(t) {
         Checked::Accepted(of) => {
@@ -35,8 +35,8 @@ pub extern "C" fn nagbiro_check(t: &[u8], a: &mut usize, b: &mut usize, c: &mut 
 
 // Writes the words of a set to a buffer: as many as there is room for. Says too that there are eight, of 64 bits each.
 fn write_words(set: [u64; 8], words: &mut [u64])
-    ensures* fact { λ _. ⌜ Eight set ⌝ }
-    ensures* words_after { λ _. ⌜ words.new ≡ take (length words.old) set ++ drop 8 words.old ⌝ }
+    ensures eight { Eight set }
+    ensures written { words.new ≡ take (length words.old) set ++ drop 8 words.old }
 {
     let mut i: usize = 0;
     while i < 8 {
@@ -51,8 +51,8 @@ fn write_words(set: [u64; 8], words: &mut [u64])
 // Finds the synchronising nodes, one bit for each.
 #[unsafe(no_mangle)]
 pub extern "C" fn nagbiro_synchronising(t: &[u8], words: &mut [u64], place: &mut usize) -> u32
-    ensures* fact { λ r. ⌜ Told (table_result (outcome t.now)) r place.old place.new ⌝ }
-    ensures* fact_2 { λ _. ⌜ LeavesWords t.now (table_result (outcome t.now)) words.old words.new ⌝ }
+    ensures told { Told (table_result (outcome t.now)) result place.old place.new }
+    ensures leaves { LeavesWords t.now (table_result (outcome t.now)) words.old words.new }
 {
     let answer = synchronising(t);
     let checked = answer.checked;
@@ -78,9 +78,9 @@ pub extern "C" fn nagbiro_one_choice(
     safe: &mut u32,
     place: &mut usize,
 ) -> u32
-    ensures* fact { λ r. ⌜ Told (result (call t.now choice.now (length sizes.old))) r place.old place.new ⌝ }
-    ensures* fact_2 { λ _. ⌜ Judges (call t.now choice.now (length sizes.old)) safe.old safe.new ⌝ }
-    ensures* fact_3 { λ _. ⌜ Leaves t.now choice.now sizes.old (answer_of (result (call t.now choice.now (length sizes.old)))) sizes.new ⌝ }
+    ensures told { Told (call_result (call t.now choice.now (length sizes.old))) result place.old place.new }
+    ensures judges { Judges (call t.now choice.now (length sizes.old)) safe.old safe.new }
+    ensures leaves { Leaves t.now choice.now sizes.old (answer_of (call_result (call t.now choice.now (length sizes.old)))) sizes.new }
 {
     match safety::safety(t, choice, sizes) {
         safety::Answer::IsSafe => {
@@ -106,8 +106,8 @@ pub extern "C" fn nagbiro_best_choice(
     sizes: &mut [u32],
     place: &mut usize,
 ) -> u32
-    ensures* fact { λ r. ⌜ Told (best_result (best_call t.now (length verdicts.old) (length sizes.old))) r place.old place.new ⌝ }
-    ensures* fact_2 { λ _. ⌜ LeavesBoth t.now verdicts.old verdicts.new sizes.old sizes.new (answer_of (best_result (best_call t.now (length verdicts.old) (length sizes.old)))) ⌝ }
+    ensures told { Told (best_result (best_call t.now (length verdicts.old) (length sizes.old))) result place.old place.new }
+    ensures leaves { LeavesBoth t.now verdicts.old verdicts.new sizes.old sizes.new (answer_of (best_result (best_call t.now (length verdicts.old) (length sizes.old)))) }
 {
     match choice::best(t, verdicts, sizes) {
         sizes::Answer::Done => 0,

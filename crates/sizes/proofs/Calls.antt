@@ -20,7 +20,7 @@ use Rattle.table.proofs.Below.{first_some, first_none, earliest_passed}
 use Rattle.table.proofs.Refusals.{refusal_pass, refusal_here, refusal_none, not_applied, refusal_over_none, refusal_over_some}
 use Rattle.rules.specs.Choice.{unmerged, unguarded, ChoiceFor}
 use Rattle.rules.specs.Rules.{entries}
-use Rattle.sizes.specs.Call.{Call, choice_of, wrong_length, outside, too_short, sizes_row, choice_checks, call_checks, Result, done, refused, result_for, table_result, result, result_of, Leaves}
+use Rattle.sizes.specs.Call.{Call, choice_of, wrong_length, outside, too_short, sizes_row, choice_checks, call_checks, Result, done, refused, result_for, table_result, call_result, result_of, Leaves}
 use Rattle.sizes.specs.Known.{Looked, SeenFor, AdmittedFor}
 use Rattle.sizes.specs.Trials.{FoundFor}
 use Rattle.sizes.specs.declared.admit.Seen.{Seen}
@@ -99,8 +99,8 @@ module _ (x : Call) (a : Accepted x.table) where
   unfolding call_checks
   past_table = refusal_over_none (λ (y : Call). y.table) choice_checks x checks a
 
-  pub length_refused : (nodes : ℕ) → nodes ≡ (program_of x.table).nodes → (length x.choice ≡ nodes → ⊥) → refused 9 nodes ≡ result x
-  unfolding result choice_checks wrong_length
+  pub length_refused : (nodes : ℕ) → nodes ≡ (program_of x.table).nodes → (length x.choice ≡ nodes → ⊥) → refused 9 nodes ≡ call_result x
+  unfolding call_result choice_checks wrong_length
   length_refused nodes e h =
       told_refused call_checks x 9 nodes
       (past_table ∙ refusal_here x _ _ (rw (ne_eqb (length x.choice) (program_of x.table).nodes (λ q. h (q ∙ sym e)), e) refl))
@@ -110,8 +110,8 @@ module _ (x : Call) (a : Accepted x.table) where
   past_length h = past_table ∙ refusal_pass x _ _ (rw (eq-eqb (length x.choice) (program_of x.table).nodes h) refl)
 
   module _ (h : length x.choice ≡ (program_of x.table).nodes) (n : ℕ) (f : First (outside x.table x.choice) (program_of x.table).nodes n) where
-    pub byte_refused : n < (program_of x.table).nodes → refused 9 n ≡ result x
-    unfolding result choice_checks
+    pub byte_refused : n < (program_of x.table).nodes → refused 9 n ≡ call_result x
+    unfolding call_result choice_checks
     byte_refused l = told_refused call_checks x 9 n (past_length h ∙ refusal_here x _ _ (first_some _ _ n f l))
 
     past_bytes : (program_of x.table).nodes ≤ n → refusal call_checks x ≡ refusal (drop 2 choice_checks) x
@@ -119,12 +119,12 @@ module _ (x : Call) (a : Accepted x.table) where
     past_bytes l = past_length h ∙ refusal_pass x _ _ (first_none _ _ n f l)
 
     module _ (l : (program_of x.table).nodes ≤ n) (needed : ℕ) (e : needed ≡ entries (program_of x.table)) where
-      pub buffer_refused : x.buffer < needed → refused 11 needed ≡ result x
-      unfolding result choice_checks
+      pub buffer_refused : x.buffer < needed → refused 11 needed ≡ call_result x
+      unfolding call_result choice_checks
       buffer_refused b = told_refused call_checks x 11 needed (past_bytes l ∙ sizes_short _ _ x needed e b)
 
-      pub nothing_refused : needed ≤ x.buffer → done ≡ result x
-      unfolding result choice_checks
+      pub nothing_refused : needed ≤ x.buffer → done ≡ call_result x
+      unfolding call_result choice_checks
       nothing_refused b = told_done call_checks x (past_bytes l ∙ sizes_long _ _ x needed e b)
 
 -- ---- a call that is not refused
@@ -178,8 +178,8 @@ module _ (t choice : List ℕ) (n : ℕ) (e : outside t choice n ≡ false) wher
       other_side false b c d q h = h
       other_side true b c d q h = absurd (true≢false q)
 
-pub done_valid : (x : Call) → done ≡ result x → Valid x
-unfolding result call_checks choice_checks
+pub done_valid : (x : Call) → done ≡ call_result x → Valid x
+unfolding call_result call_checks choice_checks
 done_valid x e =
     let n = none_refused call_checks x e in
     let a = table_accepted (λ (y : Call). y.table) choice_checks x n in
@@ -196,13 +196,13 @@ done_valid x e =
 
 -- what an admitted call has: nothing is refused, and its table is known
 pub record Admission (x : Call) (seen : Seen) : Type 0 where
-  pub done_is : done ≡ result x
+  pub done_is : done ≡ call_result x
   pub valid : Valid x
   pub known : SeenFor x.table seen
 
-pub admission : (x : Call) (answer : Answer) (seen : Seen) → answer ≡ Done → result_of answer ≡ result x → AdmittedFor x.table answer seen → Admission x seen
+pub admission : (x : Call) (answer : Answer) (seen : Seen) → answer ≡ Done → result_of answer ≡ call_result x → AdmittedFor x.table answer seen → Admission x seen
 admission x answer seen e r a =
-    let d : done ≡ result x = rw e at r in
+    let d : done ≡ call_result x = rw e at r in
     record { done_is = d; valid = done_valid x d; known = rw e at a }
 
 -- what is found and written is what the call leaves

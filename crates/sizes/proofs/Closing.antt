@@ -1,11 +1,8 @@
 -- What the least solution of a table's rules comes to: the least sizes, and the largest sums.
-use Prim.Native.Nat.{ℕ, ◌+◌, ◌*◌, ◌<◌, ◌≤◌}
+use Prim.Native.Nat.{ℕ, ◌+◌, ◌<◌, ◌≤◌}
 use mathlib.Core.Path.{◌≡◌, sym, ap, ◌∙◌, subst}
-use mathlib.Core.Bool.{Bool}
 use mathlib.Core.List.{List}
 use native.Mathlib.Omega.{arith}
-use native.Mathlib.Decide.{dec_lt}
-use lib.ListN.{length}
 use Rattle.table.specs.Program.{program_of}
 use Rattle.table.proofs.Laws.{well_formed}
 use Rattle.table.proofs.Ready.{nodes_are, few_nodes}
@@ -17,7 +14,7 @@ use Rattle.solver.proofs.Rises.{der_le}
 use Rattle.solver.proofs.Values.{value_size, value_after, value_before, starts_taken, starts_zero}
 use Rattle.rules.specs.Rules.{entries}
 use Rattle.rules.specs.Sums.{LargestAfter, LargestBefore}
-use Rattle.rules.specs.System.{Entry, size, along, Given, forms_of, none, Solved}
+use Rattle.rules.specs.System.{Entry, size, along, Given, forms_of, Solved}
 use Rattle.listed.specs.Listed.{given, Lists}
 use Rattle.rules.specs.declared.Known.{Known}
 use Rattle.rules.specs.declared.sums.Sum.TheVariants.{After, Before}

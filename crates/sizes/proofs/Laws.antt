@@ -1,7 +1,7 @@
 -- What the crates above may use of the rules: at most one table is least, a larger choice has the larger sizes, and its rules derive what a
 -- smaller one's do; and of the number of sizes.
 use Prim.Native.Nat.{ℕ, ◌+◌, ◌*◌, ◌<◌, ◌≤◌}
-use mathlib.Core.Path.{◌≡◌, refl, sym, ap, ◌∙◌, subst, fun_ext}
+use mathlib.Core.Path.{◌≡◌, refl, ap, ◌∙◌, subst, fun_ext}
 use mathlib.Core.Bool.{Bool}
 use mathlib.Core.List.{List}
 use native.Mathlib.Omega.{arith}

@@ -1,6 +1,6 @@
 -- What the crates above may use of trials: a prepared table is an accepted one, numbers that hold the sizes of a choice hold the least ones,
 -- zeros will do for every choice, and what was found for a smaller choice will do for a larger one.
-use Prim.Native.Nat.{ℕ, ◌+◌, ◌*◌, ◌<◌, ◌≤◌}
+use Prim.Native.Nat.{ℕ, ◌<◌, ◌≤◌}
 use mathlib.Core.Path.{◌≡◌, sym, ap, ◌∙◌, subst}
 use mathlib.Core.List.{List}
 use native.Mathlib.Omega.{arith}
@@ -18,7 +18,6 @@ use Rattle.solver.proofs.Values.{starts_taken, starts_zero}
 use Rattle.rules.specs.Choice.{AtMost}
 use Rattle.rules.specs.Rules.{entries, LeastSizes}
 use Rattle.rules.specs.System.{size, DerOf, none}
-use Rattle.listed.specs.Listed.{given}
 use Rattle.rules.specs.declared.Known.{Known}
 use Rattle.listed.proofs.Bounds.{slots_few}
 use Rattle.sizes.specs.Call.{choice_of, Leaves}

@@ -66,8 +66,8 @@ result_for (some r) = refused r.number r.place
 unfoldable pub table_result : List ℕ → Result
 table_result t = result_for (refusal checks t)
 
-unfoldable pub result : Call → Result
-result x = result_for (refusal call_checks x)
+unfoldable pub call_result : Call → Result
+call_result x = result_for (refusal call_checks x)
 
 -- what each case of the answer says
 abbrev pub result_of : Answer → Result

@@ -1,6 +1,6 @@
 -- What is found of a choice, and from what it may be found. Helps proofs only: the crates above know these records by the laws in
 -- proofs/Trying, and do not look inside.
-use Rattle.std.specs.Prelude.{ℕ, ◌<◌, ◌≤◌, ◌≡◌, List, Bool, length, take}
+use Rattle.std.specs.Prelude.{ℕ, ◌≤◌, ◌≡◌, List, Bool, length, take}
 use Rattle.table.specs.Program.{Program, program_of}
 use Rattle.table.specs.declared.Counts.{Counts}
 use Rattle.sync.specs.Words.{member}

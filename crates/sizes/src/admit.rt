@@ -2,7 +2,7 @@
 ghost use Rattle.std.specs.Prelude.{◌≡◌, ◌<◌};
 ghost use Rattle.table.specs.Scan.{First};
 ghost use Rattle.table.specs.Answer.{Ready};
-ghost use Rattle.sizes.specs.Call.{outside, result, result_of, table_result};
+ghost use Rattle.sizes.specs.Call.{outside, call_result, result_of, table_result};
 ghost use Rattle.sizes.specs.Known.{call, AdmittedFor};
 
 use crate::Answer;
@@ -14,7 +14,7 @@ use table::{Checked, Counts};
 // Whether the byte of node n is outside its list: 1 to 3 of a spawn, and 0 of any other node.
 fn is_outside(t: &[u8], of: Counts, choice: &[u8], n: usize) -> bool
     requires { Ready t.now of × (n < of.nodes) }
-    ensures* { λ r. ⌜ r ≡ outside t.now choice.now n ⌝ }
+    ensures { result ≡ outside t.now choice.now n }
 {
     let spawn = program::sort(t, of, n) == 2;
     let byte = chosen(choice, n);
@@ -24,7 +24,7 @@ fn is_outside(t: &[u8], of: Counts, choice: &[u8], n: usize) -> bool
 // The first node whose byte is, or the number of nodes.
 fn first_outside(t: &[u8], of: Counts, choice: &[u8]) -> usize
     requires { Ready t.now of }
-    ensures* { λ r. ⌜ First (outside t.now choice.now) of.nodes r ⌝ }
+    ensures { First (outside t.now choice.now) of.nodes result }
 {
     let mut n: usize = 0;
     while n < of.nodes {
@@ -39,7 +39,7 @@ fn first_outside(t: &[u8], of: Counts, choice: &[u8]) -> usize
 // Judges the choice and the length of the sizes buffer.
 fn judge(t: &[u8], of: Counts, choice: &[u8], buffer: usize) -> Answer
     requires { Ready t.now of }
-    ensures* { λ r. ⌜ result_of r ≡ result (call t.now choice.now buffer) ⌝ }
+    ensures { result_of result ≡ call_result (call t.now choice.now buffer) }
 {
     let nodes = of.nodes;
     if choice.len() != nodes {
@@ -72,8 +72,8 @@ pub struct Admitted {
 
 // Looks at a table: its refusal, if there is one, and what is known of it.
 pub fn look(t: &[u8]) -> Admitted
-    ensures* answer_value { λ r. ⌜ result_of r.answer ≡ table_result t.now ⌝ }
-    ensures* fact { λ r. ⌜ AdmittedFor t.now r.answer r.seen ⌝ }
+    ensures answer { result_of result.answer ≡ table_result t.now }
+    ensures seen { AdmittedFor t.now result.answer result.seen }
 {
     let found = synchronising(t);
     let checked = found.checked;
@@ -114,8 +114,8 @@ pub fn look(t: &[u8]) -> Admitted
 
 // Judges a call with a sizes buffer of so many numbers.
 pub fn admit(t: &[u8], choice: &[u8], buffer: usize) -> Admitted
-    ensures* answer_value { λ r. ⌜ result_of r.answer ≡ result (call t.now choice.now buffer) ⌝ }
-    ensures* fact { λ r. ⌜ AdmittedFor t.now r.answer r.seen ⌝ }
+    ensures answer { result_of result.answer ≡ call_result (call t.now choice.now buffer) }
+    ensures seen { AdmittedFor t.now result.answer result.seen }
 {
     let looked = look(t);
     let seen = looked.seen;

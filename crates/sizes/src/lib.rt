@@ -6,7 +6,7 @@ pub mod find;
 pub mod trials;
 
 ghost use Rattle.std.specs.Prelude.{◌≡◌, length};
-ghost use Rattle.sizes.specs.Call.{result, result_of, Leaves};
+ghost use Rattle.sizes.specs.Call.{call_result, result_of, Leaves};
 ghost use Rattle.sizes.specs.Known.{call};
 
 use admit::admit;
@@ -21,8 +21,8 @@ pub enum Answer {
 
 // Writes the sizes of a choice: for each function and then each node Total, Post, Pre, Through, unbounded as 65,536.
 pub fn sizes(t: &[u8], choice: &[u8], out: &mut [u32]) -> Answer
-    ensures* r_value { λ r. ⌜ result_of r ≡ result (call t.now choice.now (length out.old)) ⌝ }
-    ensures* fact { λ r. ⌜ Leaves t.now choice.now out.old r out.new ⌝ }
+    ensures answer { result_of result ≡ call_result (call t.now choice.now (length out.old)) }
+    ensures leaves { Leaves t.now choice.now out.old result out.new }
 {
     let mut passes: u32 = 0;
     counted(t, choice, out, &mut passes)
@@ -30,8 +30,8 @@ pub fn sizes(t: &[u8], choice: &[u8], out: &mut [u32]) -> Answer
 
 // The same, and how many passes it took; of that number nothing is promised.
 pub fn counted(t: &[u8], choice: &[u8], out: &mut [u32], passes: &mut u32) -> Answer
-    ensures* r_value { λ r. ⌜ result_of r ≡ result (call t.now choice.now (length out.old)) ⌝ }
-    ensures* fact { λ r. ⌜ Leaves t.now choice.now out.old r out.new ⌝ }
+    ensures answer { result_of result ≡ call_result (call t.now choice.now (length out.old)) }
+    ensures leaves { Leaves t.now choice.now out.old result out.new }
 {
     let admitted = admit(t, choice, out.len());
     let seen = admitted.seen;
