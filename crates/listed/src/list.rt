@@ -185,7 +185,7 @@ fn list_block(
     requires of_in_bounds { (slots known.of ≤ length rules.old) × (first ≤ 8 * a + 4 * b + 3 * f) }
     requires listed { Listed (source t.now choice.now known functions.now nodes.now edges.now) (blocks a b f) rules.old first }
     ensures rules_len_unchanged { (length rules.new ≡ length rules.old) × (result ≤ 8 * c + 4 * d + 3 * (f + 1)) }
-    ensures listed_2 { Listed (source t.now choice.now known functions.now nodes.now edges.now) (blocks c d (f + 1)) rules.new result }
+    ensures still_listed { Listed (source t.now choice.now known functions.now nodes.now edges.now) (blocks c d (f + 1)) rules.new result }
 {
     let x = list(
         t,

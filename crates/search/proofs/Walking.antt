@@ -9,7 +9,7 @@ use Rattle.table.specs.declared.Counts.{Counts}
 use Rattle.table.proofs.Booleans.{not_both}
 use Rattle.table.proofs.Ready.{nodes_are}
 use Rattle.size.specs.Numbers.{Written}
-use Rattle.rules.specs.Choice.{unmerged, guarded, AtMost}
+use Rattle.rules.specs.Choice.{AtMost}
 use Rattle.sizes.specs.Call.{choice_of}
 use Rattle.sizes.specs.Trials.{StartsFor, Holds}
 use Rattle.sizes.specs.declared.trials.Prepared.{Prepared}
@@ -17,8 +17,8 @@ use Rattle.sizes.proofs.Trying.{holds_start, holds_alike}
 use Rattle.safety.specs.Safety.{Safe}
 use Rattle.safety.specs.Trial.{Tried, adopted, rejected}
 use Rattle.safety.proofs.Laws.{safe_alike}
-use Rattle.preference.specs.Preference.{IsSpawn, InOrder}
-use Rattle.search.specs.Walk.{Unmerged, every_spawn, MergedAll, all_merged, not_merged, raised_to, OthersZero, Attempted, raised, kept, TriedAll, all_raised, all_kept, Walked}
+use Rattle.preference.specs.Preference.{InOrder}
+use Rattle.search.specs.Walk.{raised_to, OthersZero, Attempted, raised, kept, TriedAll, all_raised, all_kept, Walked}
 
 -- the last of the first i + 1, or one before it
 last_or_before : (j i : ℕ) → j < i + 1 → (j ≡ i) ⊎ (j < i)

@@ -92,7 +92,7 @@ pub(crate) fn attempt(
     requires n_in_bounds { (n < length verdicts.old) × (choice_of verdicts.old n ≤ k) }
     requires holds { Holds t.now prepared (choice_of verdicts.old) sizes.old }
     ensures attempted { Attempted (program_of t.now) n k verdicts.old verdicts.new }
-    ensures holds_2 { Holds t.now prepared (choice_of verdicts.new) sizes.new }
+    ensures still_holds { Holds t.now prepared (choice_of verdicts.new) sizes.new }
 {
     let old = verdicts[n];
     verdicts[n] = k;
@@ -179,7 +179,7 @@ pub(crate) fn all_at_once(
     requires le_k { (1 ≤ k) × (prepared.of.nodes ≤ length verdicts.old) }
     requires holds { Holds t.now prepared (choice_of verdicts.old) sizes.old }
     ensures tried_all { TriedAll (program_of t.now) k verdicts.old verdicts.new result }
-    ensures holds_2 { Holds t.now prepared (choice_of verdicts.new) sizes.new }
+    ensures still_holds { Holds t.now prepared (choice_of verdicts.new) sizes.new }
 {
     if !is_due(prepared.of.nodes, count, k, verdicts) {
         return false;

@@ -29,7 +29,7 @@ fn one_by_one(
     requires holds { Holds t.now prepared (choice_of verdicts.old) sizes.old }
     ensures walked { Walked (program_of t.now) k count (at order.now) (choice_of verdicts.old) (choice_of verdicts.new) }
     ensures written { Written prepared.of.nodes (choice_of verdicts.new) verdicts.old verdicts.new }
-    ensures holds_2 { Holds t.now prepared (choice_of verdicts.new) sizes.new }
+    ensures still_holds { Holds t.now prepared (choice_of verdicts.new) sizes.new }
 {
     let mut i: usize = 0;
     while i < count {
@@ -59,7 +59,7 @@ pub(crate) fn walk(
     requires holds { Holds t.now prepared (choice_of verdicts.old) sizes.old }
     ensures walked { Walked (program_of t.now) k count (at order.now) (choice_of verdicts.old) (choice_of verdicts.new) }
     ensures written { Written prepared.of.nodes (choice_of verdicts.new) verdicts.old verdicts.new }
-    ensures holds_2 { Holds t.now prepared (choice_of verdicts.new) sizes.new }
+    ensures still_holds { Holds t.now prepared (choice_of verdicts.new) sizes.new }
 {
     if all_at_once(t, prepared, words, count, k, verdicts, sizes, work) {
         return;

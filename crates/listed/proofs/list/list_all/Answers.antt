@@ -48,7 +48,7 @@ loop-f-preserved c =
     let L = c.loop-f in
     let x = c.end_of-c.ensures in
     let y = c.end_of-d.ensures in
-    (omega (arith, c.loop-f-test.true), x.1, y.1, λ e. (x.2 (omega (arith, e)), y.2 (omega (arith, e))), c.list_block-count.ensures.rules_len_unchanged.0 ∙ L.invariant.4, c.list_block-count.ensures.rules_len_unchanged.1, c.list_block-count.ensures.listed_2)
+    (omega (arith, c.loop-f-test.true), x.1, y.1, λ e. (x.2 (omega (arith, e)), y.2 (omega (arith, e))), c.list_block-count.ensures.rules_len_unchanged.0 ∙ L.invariant.4, c.list_block-count.ensures.rules_len_unchanged.1, c.list_block-count.ensures.still_listed)
 
 pub returns : goal.returns
 returns c =

@@ -64,4 +64,4 @@ returns c =
     let k = block c.requires.a_le_c in
     let first = blocks a.a a.b a.f in
     let nodes = up_to first Node (8 * a.c) in
-    let edges = up_to nodes Edge (3 * a.d) in record { rules_len_unchanged = (c.list.ensures.long ∙ c.list-z.ensures.long ∙ c.list-y.ensures.long ∙ c.list-x.ensures.long, block_few k c.requires.of_in_bounds.0 c.requires.of_in_bounds.1 c.list-x.ensures.few c.list-y.ensures.few c.list-z.ensures.few c.list.ensures.few); listed_2 = c.list.ensures.more (up_to edges Back a.d) refl (c.list-z.ensures.more edges refl (c.list-y.ensures.more nodes refl (c.list-x.ensures.more first refl c.requires.listed))) }
+    let edges = up_to nodes Edge (3 * a.d) in record { rules_len_unchanged = (c.list.ensures.long ∙ c.list-z.ensures.long ∙ c.list-y.ensures.long ∙ c.list-x.ensures.long, block_few k c.requires.of_in_bounds.0 c.requires.of_in_bounds.1 c.list-x.ensures.few c.list-y.ensures.few c.list-z.ensures.few c.list.ensures.few); still_listed = c.list.ensures.more (up_to edges Back a.d) refl (c.list-z.ensures.more edges refl (c.list-y.ensures.more nodes refl (c.list-x.ensures.more first refl c.requires.listed))) }
