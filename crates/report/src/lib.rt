@@ -1,10 +1,11 @@
-// Answers as text on standard output, in document 01's words. What is printed is tested, not proved.
+// Answers as text on a writer, in document 01's words. What is printed is tested, not proved.
 #![tactic(auto)]
 
 ghost use Rattle.std.specs.Prelude.{◌≤◌, ◌≡◌, length};
 
-use libc::STDOUT_FILENO;
 use script::least;
+use std::io;
+use std::io::Write;
 use table::Checked;
 
 // What a sizes buffer holds before each run. It is no size, so what is left of it can be counted.
@@ -14,40 +15,31 @@ const OLD_SIZE: u32 = 77777;
 const OLD_VERDICT: u8 = 77;
 
 // A number in decimal.
-pub fn number(n: usize) {
-    io::print_decimal(STDOUT_FILENO, n as u64);
+pub fn number<W: Write>(out: &mut W, n: usize) -> io::Result<()> {
+    write!(out, "{n}")
 }
 
 // A space and a number.
-pub fn next_number(n: usize) {
-    io::write_all(STDOUT_FILENO, b" ");
-    number(n);
+pub fn next_number<W: Write>(out: &mut W, n: usize) -> io::Result<()> {
+    write!(out, " {n}")
 }
 
-pub fn line_feed() {
-    io::write_all(STDOUT_FILENO, b"\n");
+pub fn line_feed<W: Write>(out: &mut W) -> io::Result<()> {
+    writeln!(out)
 }
 
 // `refused N at P`, with a line feed.
-pub fn refused(n: u32, place: usize) {
-    io::write_all(STDOUT_FILENO, b"refused");
-    next_number(n as usize);
-    io::write_all(STDOUT_FILENO, b" at");
-    next_number(place);
-    line_feed();
+pub fn refused<W: Write>(out: &mut W, n: u32, place: usize) -> io::Result<()> {
+    writeln!(out, "refused {n} at {place}")
 }
 
 // `accepted`, then the number of functions, nodes and edges, and a line feed; or as for a refusal.
-pub fn checked(answer: Checked) {
+pub fn checked<W: Write>(out: &mut W, answer: Checked) -> io::Result<()> {
     match answer {
         Checked::Accepted(of) => {
-            io::write_all(STDOUT_FILENO, b"accepted");
-            next_number(of.functions);
-            next_number(of.nodes);
-            next_number(of.edges);
-            line_feed();
+            writeln!(out, "accepted {} {} {}", of.functions, of.nodes, of.edges)
         }
-        Checked::Refused(n, place) => refused(n, place),
+        Checked::Refused(n, place) => refused(out, n, place),
     }
 }
 
@@ -107,54 +99,53 @@ pub fn kept(verdicts: &[u8], sizes: &[u32]) -> Left {
 }
 
 // A size as it is written to a buffer: its bytes, or `unbounded` for 65,536.
-fn size(x: u32) {
+fn size<W: Write>(out: &mut W, x: u32) -> io::Result<()> {
     if x == 65536 {
-        io::write_all(STDOUT_FILENO, b"unbounded");
+        write!(out, "unbounded")
     } else {
-        number(x as usize);
+        write!(out, "{x}")
     }
 }
 
 // Number `at` of rows of four sizes: the row's letter and number go before its first, a line feed after its last.
-fn entry(letter: &[u8], at: usize, x: u32) {
+fn entry<W: Write>(out: &mut W, letter: &str, at: usize, x: u32) -> io::Result<()> {
     if at % 4 == 0 {
-        io::write_all(STDOUT_FILENO, letter);
-        number(at / 4);
+        write!(out, "  {letter} {}", at / 4)?;
     }
-    io::write_all(STDOUT_FILENO, b" ");
-    size(x);
+    write!(out, " ")?;
+    size(out, x)?;
     if at % 4 == 3 {
-        line_feed();
+        line_feed(out)?;
     }
+    Ok(())
 }
 
-fn rows(letter: &[u8], out: &[u32]) {
-    let mut at: usize = 0;
-    while at < out.len() {
-        entry(letter, at, out[at]);
-        at += 1;
+fn rows<W: Write>(out: &mut W, letter: &str, sizes: &[u32]) -> io::Result<()> {
+    for (at, x) in sizes.iter().enumerate() {
+        entry(out, letter, at, *x)?;
     }
+    Ok(())
 }
 
 // A row `  F n Total Post Pre Through` for each function of the table, as far as the sizes buffer goes.
-pub fn functions(t: &[u8], out: &[u32]) {
+pub fn functions<W: Write>(out: &mut W, t: &[u8], sizes: &[u32]) -> io::Result<()> {
     let Checked::Accepted(of) = table::check(t) else {
-        return;
+        return Ok(());
     };
     let from: usize = 0;
-    let to = least(of.functions, out.len() / 4) * 4;
-    rows(b"  F ", &out[from..to]);
+    let to = least(of.functions, sizes.len() / 4) * 4;
+    rows(out, "F", &sizes[from..to])
 }
 
 // A row `  N n Total Post Pre Through` for each node of the table, as far as the sizes buffer goes behind the functions.
-pub fn nodes(t: &[u8], out: &[u32]) {
+pub fn nodes<W: Write>(out: &mut W, t: &[u8], sizes: &[u32]) -> io::Result<()> {
     let Checked::Accepted(of) = table::check(t) else {
-        return;
+        return Ok(());
     };
-    let room = out.len() / 4;
+    let room = sizes.len() / 4;
     let before = least(of.functions, room);
     let count = least(of.nodes, room - before);
     let from = before * 4;
     let to = from + count * 4;
-    rows(b"  N ", &out[from..to]);
+    rows(out, "N", &sizes[from..to])
 }
