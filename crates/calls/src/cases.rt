@@ -1,139 +1,158 @@
 // The calls of document 01, with their answers as text.
 ghost use Rattle.std.specs.Prelude.{◌≤◌};
 
-use libc::STDOUT_FILENO;
 use report::{kept, line_feed, next_number};
 use script::{least, part};
 use sizes::Answer;
+use std::io;
+use std::io::Write;
 use sync::words::has;
 use table::Checked;
 
-fn print_nodes(set: [u64; 8]) {
+fn print_nodes<W: Write>(out: &mut W, set: [u64; 8]) -> io::Result<()> {
     for n in 0..512 {
         if has(set, n) {
-            next_number(n);
+            next_number(out, n)?;
         }
     }
+    Ok(())
 }
 
 // The two sets that `sync` finds: the synchronising nodes, and those that are reached.
-pub fn show_sync(t: &[u8]) {
+pub fn show_sync<W: Write>(out: &mut W, t: &[u8]) -> io::Result<()> {
     let answer = sync::synchronising(t);
     let checked = answer.checked;
     let synchronising = answer.synchronising;
     let reached = answer.reached;
-    report::checked(checked);
-    io::write_all(STDOUT_FILENO, b"  synchronising:");
-    print_nodes(synchronising);
-    io::write_all(STDOUT_FILENO, b"\n  reached:");
-    print_nodes(reached);
-    line_feed();
+    report::checked(out, checked)?;
+    write!(out, "  synchronising:")?;
+    print_nodes(out, synchronising)?;
+    write!(out, "\n  reached:")?;
+    print_nodes(out, reached)?;
+    line_feed(out)
 }
 
 // How much of its buffer a call left.
-fn print_kept(out: &[u32]) {
-    let left = kept(b"", out);
-    io::write_all(STDOUT_FILENO, b"  kept");
-    next_number(left.sizes);
-    line_feed();
+fn print_kept<W: Write>(out: &mut W, sizes: &[u32]) -> io::Result<()> {
+    let left = kept(b"", sizes);
+    writeln!(out, "  kept {}", left.sizes)
 }
 
 // The sizes of a choice, those of functions and of nodes.
-pub fn show_sizes(t: &[u8], choice: &[u8], out: &mut [u32]) {
-    match sizes::sizes(t, choice, out) {
+pub fn show_sizes<W: Write>(
+    out: &mut W,
+    t: &[u8],
+    choice: &[u8],
+    sizes: &mut [u32],
+) -> io::Result<()> {
+    match sizes::sizes(t, choice, sizes) {
         Answer::Done => {
-            io::write_all(STDOUT_FILENO, b"done\n");
-            report::functions(t, out);
-            report::nodes(t, out);
+            writeln!(out, "done")?;
+            report::functions(out, t, sizes)?;
+            report::nodes(out, t, sizes)?;
         }
-        Answer::Refused(number, place) => report::refused(number, place),
+        Answer::Refused(number, place) => report::refused(out, number, place)?,
     }
-    print_kept(out);
+    print_kept(out, sizes)
 }
 
 // Whether a choice is safe, and the sizes of functions.
-pub fn show_safety(t: &[u8], choice: &[u8], out: &mut [u32]) {
-    match safety::safety(t, choice, out) {
+pub fn show_safety<W: Write>(
+    out: &mut W,
+    t: &[u8],
+    choice: &[u8],
+    sizes: &mut [u32],
+) -> io::Result<()> {
+    match safety::safety(t, choice, sizes) {
         safety::Answer::IsSafe => {
-            io::write_all(STDOUT_FILENO, b"safe\n");
-            report::functions(t, out);
+            writeln!(out, "safe")?;
+            report::functions(out, t, sizes)?;
         }
         safety::Answer::IsUnsafe => {
-            io::write_all(STDOUT_FILENO, b"unsafe\n");
-            report::functions(t, out);
+            writeln!(out, "unsafe")?;
+            report::functions(out, t, sizes)?;
         }
-        safety::Answer::Refused(number, place) => report::refused(number, place),
+        safety::Answer::Refused(number, place) => report::refused(out, number, place)?,
     }
-    print_kept(out);
+    print_kept(out, sizes)
 }
 
-fn print_spawns(spawns: &[usize; 512], count: usize)
+fn print_spawns<W: Write>(out: &mut W, spawns: &[usize; 512], count: usize) -> io::Result<()>
     requires { count ≤ 512 }
 {
     for i in 0..count {
-        next_number(spawns[i]);
+        next_number(out, spawns[i])?;
     }
+    Ok(())
 }
 
 // The spawns of the table in the preference order, where it is accepted.
-fn print_order(t: &[u8]) {
+fn print_order<W: Write>(out: &mut W, t: &[u8]) -> io::Result<()> {
     let arranged = preference::preference(t);
     let checked = arranged.checked;
     let spawns = arranged.spawns;
     let count = least(arranged.count, 512);
     let Checked::Accepted(_) = checked else {
-        return;
+        return Ok(());
     };
-    io::write_all(STDOUT_FILENO, b"  order");
-    print_spawns(&spawns, count);
-    line_feed();
+    write!(out, "  order")?;
+    print_spawns(out, &spawns, count)?;
+    line_feed(out)
 }
 
-fn print_verdict(verdict: u8) {
-    next_number(verdict as usize);
+fn print_verdict<W: Write>(out: &mut W, verdict: u8) -> io::Result<()> {
+    next_number(out, verdict as usize)
 }
 
-fn print_bytes(verdicts: &[u8]) {
-    for n in 0..verdicts.len() {
-        print_verdict(verdicts[n]);
+fn print_bytes<W: Write>(out: &mut W, verdicts: &[u8]) -> io::Result<()> {
+    for verdict in verdicts {
+        print_verdict(out, *verdict)?;
     }
+    Ok(())
 }
 
 // The verdict of each node of the table, as far as the buffer goes.
-fn print_verdicts(t: &[u8], verdicts: &[u8]) {
+fn print_verdicts<W: Write>(out: &mut W, t: &[u8], verdicts: &[u8]) -> io::Result<()> {
     let Checked::Accepted(of) = table::check(t) else {
-        return;
+        return Ok(());
     };
-    io::write_all(STDOUT_FILENO, b"  verdicts");
-    print_bytes(part(verdicts, 0, of.nodes));
-    line_feed();
+    write!(out, "  verdicts")?;
+    print_bytes(out, part(verdicts, 0, of.nodes))?;
+    line_feed(out)
 }
 
 // The preference order, and the best choice and its sizes, in these buffers.
-fn show_choice(t: &[u8], verdicts: &mut [u8], sizes: &mut [u32]) {
+fn show_choice<W: Write>(
+    out: &mut W,
+    t: &[u8],
+    verdicts: &mut [u8],
+    sizes: &mut [u32],
+) -> io::Result<()> {
     match choice::best(t, verdicts, sizes) {
         Answer::Done => {
-            io::write_all(STDOUT_FILENO, b"done\n");
-            print_order(t);
-            print_verdicts(t, verdicts);
-            report::functions(t, sizes);
+            writeln!(out, "done")?;
+            print_order(out, t)?;
+            print_verdicts(out, t, verdicts)?;
+            report::functions(out, t, sizes)?;
         }
         Answer::Refused(number, place) => {
-            report::refused(number, place);
-            print_order(t);
+            report::refused(out, number, place)?;
+            print_order(out, t)?;
         }
     }
     let left = kept(verdicts, sizes);
-    io::write_all(STDOUT_FILENO, b"  kept");
-    next_number(left.verdicts);
-    next_number(left.sizes);
-    line_feed();
+    writeln!(out, "  kept {} {}", left.verdicts, left.sizes)
 }
 
 // The same with a verdict buffer of its own, of so many bytes.
-pub fn show_best(t: &[u8], length: usize, sizes: &mut [u32]) {
+pub fn show_best<W: Write>(
+    out: &mut W,
+    t: &[u8],
+    length: usize,
+    sizes: &mut [u32],
+) -> io::Result<()> {
     let mut verdicts = report::old_verdicts();
     let from: usize = 0;
     let to = least(length, 600);
-    show_choice(t, &mut verdicts[from..to], sizes);
+    show_choice(out, t, &mut verdicts[from..to], sizes)
 }

@@ -1,38 +1,31 @@
 // The work that calls take. The counts are held by stored output, and not promised.
-use libc::STDOUT_FILENO;
 use sizes::Answer;
+use std::io;
+use std::io::Write;
 
 // In how many passes the sizes of a choice are found. A loss of speed raises them: to some 65,540 on recursion and on a
 // loop that adds up, if entries do not leap to unbounded; to 500 on a line of nodes, if the edges are gone over against
 // their way.
-pub fn show_passes(t: &[u8], choice: &[u8]) {
+pub fn show_passes<W: Write>(out: &mut W, t: &[u8], choice: &[u8]) -> io::Result<()> {
     // Room for the sizes of the largest table, so that none is refused for it.
     let mut numbers = [0u32; 2304];
     let mut passes: u32 = 0;
     match sizes::counted(t, choice, &mut numbers, &mut passes) {
-        Answer::Done => {
-            report::number(passes as usize);
-            io::write_all(STDOUT_FILENO, b" passes\n");
-        }
-        Answer::Refused(number, place) => report::refused(number, place),
+        Answer::Done => writeln!(out, "{passes} passes"),
+        Answer::Refused(number, place) => report::refused(out, number, place),
     }
 }
 
 // How many trials the search for the best choice takes, at most two for each spawn, and how many passes over the rules in
 // them. A loss of speed raises them.
-pub fn show_trials(t: &[u8]) {
+pub fn show_trials<W: Write>(out: &mut W, t: &[u8]) -> io::Result<()> {
     // Room for the largest table, so that none is refused for it.
     let mut verdicts = [0u8; 512];
     let mut sizes = [0u32; 2304];
     let mut trials: u32 = 0;
     let mut passes: u32 = 0;
     match choice::counted(t, &mut verdicts, &mut sizes, &mut trials, &mut passes) {
-        Answer::Done => {
-            report::number(trials as usize);
-            io::write_all(STDOUT_FILENO, b" trials, ");
-            report::number(passes as usize);
-            io::write_all(STDOUT_FILENO, b" passes\n");
-        }
-        Answer::Refused(number, place) => report::refused(number, place),
+        Answer::Done => writeln!(out, "{trials} trials, {passes} passes"),
+        Answer::Refused(number, place) => report::refused(out, number, place),
     }
 }
