@@ -2,6 +2,8 @@
 // script.
 #![tactic(auto)]
 
-fn main() {
-    calls::run_input();
+use std::io;
+
+fn main(rt: HostRuntime) -> io::Result<()> {
+    calls::run_input(&rt)
 }

@@ -1,6 +1,8 @@
 // Runs tables and choices whose outcomes were worked out from document 01: `calls` makes the calls of the script.
 #![tactic(auto)]
 
-fn main() {
-    calls::run_input();
+use std::io;
+
+fn main(rt: HostRuntime) -> io::Result<()> {
+    calls::run_input(&rt)
 }
