@@ -1,13 +1,14 @@
 // Reads a task table from standard input and prints its listing. Document 01, "The listing program".
 #![tactic(auto)]
 
-use libc::STDOUT_FILENO;
+use std::io;
+use std::io::Read;
 
-fn main() {
+fn main(rt: HostRuntime) -> io::Result<()> {
     // one byte more than the longest table, so that a longer input is seen to be one
-    let mut buffer = [0u8; 12801];
-    let n = io::read_full(0, &mut buffer);
-    let made = text::listing(&buffer[..n]);
+    let mut table = Vec::new(rt.alloc());
+    rt.stdin().take(12801).read_to_end(&mut table)?;
+    let made = text::listing(&table);
     let bytes = made.bytes;
-    io::write_all(STDOUT_FILENO, &bytes[..made.length]);
+    rt.write_all(&bytes[..made.length])
 }
