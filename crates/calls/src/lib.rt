@@ -7,9 +7,9 @@ mod counts;
 
 use cases::{show_best, show_safety, show_sizes, show_sync};
 use counts::{show_passes, show_trials};
-use script::{Run, least, part};
+use script::{Run, least, part, read_full};
 use std::io;
-use std::io::{BufWriter, Read, Write};
+use std::io::Write;
 
 // What the call that a word stands for answers.
 fn show_call<W: Write>(
@@ -92,13 +92,10 @@ fn run_script<W: Write>(
 }
 
 // Makes the calls of the script on standard input, of which it reads 65,536 bytes.
-pub fn run_input(rt: &(impl Input + Print + AllocGlobal)) -> io::Result<()> {
-    let alloc = rt.alloc();
-    let mut text = Vec::new(alloc);
-    rt.reader().take(65536).read_to_end(&mut text)?;
-    let mut t = vec![in alloc; 0; 65536]?;
-    let mut choice = vec![in alloc; 0; 65536]?;
-    let mut out = BufWriter::new(alloc, io::writer(rt))?;
-    run_script(&mut out, &text, &mut t, &mut choice)?;
-    out.flush()
+pub fn run_input(rt: &(impl Input + Print)) -> io::Result<()> {
+    let mut text = [0u8; 65536];
+    let mut t = [0u8; 65536];
+    let mut choice = [0u8; 65536];
+    let n = read_full(&mut rt.reader(), &mut text)?;
+    run_script(&mut io::writer(rt), &text[..n], &mut t, &mut choice)
 }
