@@ -14,7 +14,7 @@ returns-then-before-n-eq65536 c =
     let p = c.requires in
     let a = c.args in
     let L = c.loop-e in
-    tells_no (edge_both a.t.now a.after.now a.before.now a.of p.0 L.e c.loop-e-test.true (sym (ap (at a.after.now) c.edge_from-p.ensures.0) ∙ c.if-after-p-eq65536.true) (sym (ap (at a.before.now) c.edge_to-n.ensures.0) ∙ c.if-before-n-eq65536.true))
+    tells_no (edge_both a.t.now a.after.now a.before.now a.of p.0 L.e c.loop-e-test.true (omega (arith, ap (at a.after.now) c.edge_from-p.ensures.0)) (sym (ap (at a.before.now) c.edge_to-n.ensures.0) ∙ c.if-before-n-eq65536.true))
 
 pub loop-e-preserved-else-before-n-eq65536 : goal.loop-e-preserved-else-before-n-eq65536
 loop-e-preserved-else-before-n-eq65536 c =
@@ -26,7 +26,7 @@ pub loop-e-preserved : goal.loop-e-preserved
 loop-e-preserved c =
     let a = c.args in
     let L = c.loop-e in
-    (omega (arith, c.loop-e-test.true), L.invariant.1, edges_more a.t.now a.after.now a.before.now L.invariant.2 (λ x y. c.if-after-p-eq65536.false (ap (at a.after.now) c.edge_from-p.ensures.0 ∙ x)))
+    (omega (arith, c.loop-e-test.true), L.invariant.1, edges_more a.t.now a.after.now a.before.now L.invariant.2 (λ x y. absurd (omega (arith, ap (at a.after.now) c.edge_from-p.ensures.0, x))))
 
 pub returns : goal.returns
 returns c =

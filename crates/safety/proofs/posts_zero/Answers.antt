@@ -22,7 +22,7 @@ returns-then-sizes-target_of-ne0 c =
     let a = c.args in
     let L = c.loop-n in
     let e : 4 * c.target_of.result + 1 ≡ 4 * (program_of a.t.now).target L.n + 1 = omega (arith, c.target_of.ensures.0) in
-    tells_no (λ p. c.if-sizes-target_of-ne0.true (ap (at a.sizes.now) e ∙ p.zero_below L.n c.loop-n-test.true (sym c.sort.ensures ∙ c.if-sort-eq2.true)))
+    tells_no (λ p. c.if-sizes-target_of-ne0.true (ap (at a.sizes.now) e ∙ p.zero_below L.n c.loop-n-test.true (omega arith)))
 
 pub loop-n-preserved-else-sizes-target_of-ne0 : goal.loop-n-preserved-else-sizes-target_of-ne0
 loop-n-preserved-else-sizes-target_of-ne0 c =
@@ -35,7 +35,7 @@ pub loop-n-preserved : goal.loop-n-preserved
 loop-n-preserved c =
     let a = c.args in
     let L = c.loop-n in
-    (omega (arith, c.loop-n-test.true), L.invariant.1, posts_more (program_of a.t.now) (at a.sizes.now) L.invariant.2 (λ s. absurd (c.if-sort-eq2.false (c.sort.ensures ∙ s))))
+    (omega (arith, c.loop-n-test.true), L.invariant.1, posts_more (program_of a.t.now) (at a.sizes.now) L.invariant.2 (λ s. absurd (omega (arith, s))))
 
 pub returns : goal.returns
 returns c =
