@@ -10,6 +10,7 @@ pub enum Size {
     Unbounded,
 }
 
+#[tactic(auto, using(crate::proofs::Values::size_bytes, crate::proofs::Values::size_unbounded, crate::proofs::Values::size_same))]
 impl Size {
     // The largest number of bytes that is a size.
     pub const CEILING: u32 = 65535;
