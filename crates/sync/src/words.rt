@@ -17,6 +17,7 @@ fn word_with(x: u64, k: usize) -> u64
 }
 
 // Whether n is in the set.
+#[tactic(auto, using(crate::proofs::Members::member_past), unfolding(crate::specs::Words::member))]
 pub fn has(set: [u64; 8], n: usize) -> bool
     ensures { result ≡ member set n }
 {

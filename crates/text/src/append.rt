@@ -35,6 +35,7 @@ pub(crate) fn put_decimal(out: &mut [u8], at: usize, n: usize) -> usize
 }
 
 // A size as it is written to a buffer: its bytes, or `unbounded` for 65,536.
+#[tactic(auto, using(crate::proofs::Appending::appended_as, crate::proofs::Fields::size_unbounded, crate::proofs::Fields::size_bytes))]
 fn put_size(out: &mut [u8], at: usize, size: u32) -> usize
     requires { at + 20 ≤ length out.old }
     ensures { Appended out.old at (size_text size) out.new result }

@@ -17,6 +17,7 @@ pub(crate) fn put_function(out: &mut [u8], at: usize, sizes: &[u32], f: usize) -
 }
 
 // The word of a spawn's verdict.
+#[tactic(auto, using(crate::proofs::Appending::appended_as, crate::proofs::Fields::verdict_unmerged, crate::proofs::Fields::verdict_guarded, crate::proofs::Fields::verdict_unguarded))]
 fn put_verdict(out: &mut [u8], at: usize, verdict: u8) -> usize
     requires { at + 9 ≤ length out.old }
     ensures { Appended out.old at (verdict_word verdict) out.new result }
