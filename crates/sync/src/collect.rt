@@ -16,6 +16,7 @@ pub(crate) fn empty() -> [u64; 8]
 }
 
 // The syncs.
+#[tactic(auto, using(std::proofs::lemmas::Bool::Decides::nat_tests, crate::proofs::Collected::collected_keep, crate::proofs::Collected::collected_drop))]
 pub(crate) fn syncs(t: &[u8], of: Counts) -> [u64; 8]
     requires { Ready t.now of }
     ensures { Collected (λ n. eqb ((program_of t.now).sort n) sync) (λ n. n) (program_of t.now).nodes result }

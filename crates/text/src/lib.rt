@@ -55,6 +55,7 @@ fn put_best(out: &mut [u8], t: &[u8], of: Counts) -> usize
 }
 
 // The text of a table of any length.
+#[tactic(auto, using(crate::specs::Listing::too_long, crate::proofs::Appending::appended_within))]
 fn put_text(out: &mut [u8], t: &[u8]) -> usize
     requires { 66752 ≤ length out.old }
     ensures listing_of { ListingOf t.now (take result out.new) }

@@ -2,12 +2,9 @@ use mathlib.Core.Path.{sym, ap, ◌∙◌}
 use native.Mathlib.Omega.{arith}
 use Rattle.table.specs.Answer.{outcome_of}
 use Rattle.table.proofs.Laws.{answer_accepted}
-use Rattle.text.specs.Listing.{too_long, refused, accepted}
+use Rattle.text.specs.Listing.{refused, accepted}
 use Rattle.text.proofs.Appending.{appended_within}
 use Rattle.text.proofs.put_text.Goals as goal
-
-pub returns-then-t-gt12800 : goal.returns-then-t-gt12800
-returns-then-t-gt12800 c = record { listing_of = too_long c.if-t-gt12800.true c.put_word.ensures.text; upper_bound = appended_within c.put_word.ensures (omega arith) }
 
 pub put_best-requires : goal.put_best-requires
 put_best-requires c = (answer_accepted c.args.t.now c.in-Accepted.of (sym (ap outcome_of c.in-Accepted.is) ∙ c.check.ensures), c.requires)
