@@ -279,3 +279,11 @@ module _ (g : Program) (f : ℕ) (old l : List ℕ) (p : Sounded g (at old)) (ex
         (rw (s.rest f (omega arith)) (inl (p.reached f exists (λ e. n (s.rest f (omega arith) ∙ e)))));
     rest = λ k b. s.rest k (omega arith);
   }
+
+  -- one or the other, by what stands at f
+  pub settled_next : {new : List ℕ} → f < length l → (at l f ≡ no_depth → new ≡ set l f 0) → ((at l f ≡ no_depth → ⊥) → new ≡ l) → Settled g (f + 1) old new
+  settled_next {new} h zero_there kept = go (ℕ_discrete (at l f) no_depth)
+    where
+      go : Dec (at l f ≡ no_depth) → Settled g (f + 1) old new
+      go (yes e) = rw (zero_there e) (settled_zero h e)
+      go (no n) = rw (kept n) (settled_keep n)

@@ -4,9 +4,8 @@ use native.Mathlib.Omega.{arith}
 use borrow.Author.Rules.{rules}
 use Rattle.table.specs.Program.{program_of}
 use Rattle.table.proofs.Ready.{few_functions, functions_are}
-use Rattle.preference.proofs.Levels.{settled_none, settled_zero, settled_keep}
+use Rattle.preference.proofs.Levels.{settled_none, settled_next}
 use Rattle.preference.proofs.depth.depths.Goals as goal
-use Rattle.preference.proofs.depth.depths.Goals.{then-depth-f-eq65535, else-depth-f-eq65535}
 
 pub loop-f-init : goal.loop-f-init
 loop-f-init c =
@@ -20,10 +19,7 @@ loop-f-preserved c =
     let e : L.f < g.functions = omega (arith, functions_are c.args.t.now c.args.of c.requires.0) in (
       search rules,
       L.invariant.1,
-      elim c.if-depth-f-eq65535.branch [
-        | then-depth-f-eq65535 w ↦ (rw w.depth-is (settled_zero g L.f _ L.depth c.sound.ensures.sounded e L.invariant.2 (omega (arith, c.requires.1, L.invariant.2.long, c.sound.ensures.depth_len_unchanged)) w.if-depth-f-eq65535.true))
-        | else-depth-f-eq65535 w ↦ (rw w.depth-is (settled_keep g L.f _ L.depth c.sound.ensures.sounded e L.invariant.2 w.if-depth-f-eq65535.false))
-      ],
+      settled_next g L.f _ L.depth c.sound.ensures.sounded e L.invariant.2 (omega (arith, c.requires.1, L.invariant.2.long, c.sound.ensures.depth_len_unchanged)) (λ h. grind arith) (λ h. grind arith),
     )
 
 pub shape_of-depth : goal.shape_of-depth
