@@ -31,13 +31,11 @@ unfolding checks refusal
 nothing_left t = refl
 
 -- check 5 as the code tests it
-
 entry_told : (t : List ℕ) (f m : ℕ) → f ≡ functions t → First (is_entry t) (records t) m → no_entry t ≡ (eqb f 0 || leb (records t) m)
 unfolding no_entry
 entry_told t f m e p = rw (e, first_not_any (is_entry t) (records t) m p) refl
 
 -- the first k checks do not apply to t
-
 abbrev Past : ℕ → List ℕ → Type 0
 Past k t = refusal checks t ≡ refusal (drop k checks) t
 

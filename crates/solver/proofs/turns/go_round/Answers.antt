@@ -1,9 +1,7 @@
 use Prim.Native.Nat.{ℕ, ◌+◌, ◌<◌}
 use mathlib.Core.Path.{◌≡◌, refl, sym, ap, ◌∙◌}
 use Rattle.size.specs.Size.{value_of}
-use lib.Dec.{lit<}
 use lib.ListN.{length, length-replicate, length-set}
-use borrow.Author.Rules.{scaled_Fits}
 use Rattle.solver.specs.Values.{values_of, value_at, starts_from}
 use Rattle.solver.specs.Rounds.{Round, left}
 use Rattle.solver.proofs.Rounds.{second_low, low_as, at_head_of, at_part_of, size_read, sum_read, next_fits, rule_there, rule_fits, rule_read, as_long, ticks, stored_size, stored_after, stored_before, stored_through, rule_kept, rule_risen, round_start, round_again, again_less, round_solved}
@@ -31,60 +29,6 @@ unpacked-rule-requires c =
     let here = rule_there L.invariant.0 c.if-i-end.true in
     (c.requires.count_in_bounds.2.heads L.i here, c.requires.count_in_bounds.2.parts L.i here)
 
-pub offset_bounds-sizes-x : goal.offset_bounds-sizes-x
-offset_bounds-sizes-x c = scaled_Fits _ 2304 8 c.if-x-lt2304.true (lit< tt)
-
-pub bounds-sizes-x : goal.bounds-sizes-x
-bounds-sizes-x c = c.if-x-lt2304.true
-
-pub offset_bounds-after-m : goal.offset_bounds-after-m
-offset_bounds-after-m c = scaled_Fits _ 512 8 c.unpacked-rule.ensures.head_sum_low (lit< tt)
-
-pub bounds-after-m : goal.bounds-after-m
-bounds-after-m c = c.unpacked-rule.ensures.head_sum_low
-
-pub offset_bounds-before-m : goal.offset_bounds-before-m
-offset_bounds-before-m c = scaled_Fits _ 512 8 c.unpacked-rule.ensures.head_sum_low (lit< tt)
-
-pub bounds-before-m : goal.bounds-before-m
-bounds-before-m c = c.unpacked-rule.ensures.head_sum_low
-
-pub offset_bounds-through-m : goal.offset_bounds-through-m
-offset_bounds-through-m c = scaled_Fits _ 512 8 c.unpacked-rule.ensures.head_sum_low (lit< tt)
-
-pub bounds-through-m : goal.bounds-through-m
-bounds-through-m c = c.unpacked-rule.ensures.head_sum_low
-
-pub offset_bounds-sizes-y : goal.offset_bounds-sizes-y
-offset_bounds-sizes-y c = scaled_Fits _ 2304 8 c.if-y-lt2304.true (lit< tt)
-
-pub bounds-sizes-y : goal.bounds-sizes-y
-bounds-sizes-y c = c.if-y-lt2304.true
-
-pub offset_bounds-after-n : goal.offset_bounds-after-n
-offset_bounds-after-n c = scaled_Fits _ 512 8 c.unpacked-rule.ensures.part_sum_low (lit< tt)
-
-pub bounds-after-n : goal.bounds-after-n
-bounds-after-n c = c.unpacked-rule.ensures.part_sum_low
-
-pub offset_bounds-before-n : goal.offset_bounds-before-n
-offset_bounds-before-n c = scaled_Fits _ 512 8 c.unpacked-rule.ensures.part_sum_low (lit< tt)
-
-pub bounds-before-n : goal.bounds-before-n
-bounds-before-n c = c.unpacked-rule.ensures.part_sum_low
-
-pub offset_bounds-through-n : goal.offset_bounds-through-n
-offset_bounds-through-n c = scaled_Fits _ 512 8 c.unpacked-rule.ensures.part_sum_low (lit< tt)
-
-pub bounds-through-n : goal.bounds-through-n
-bounds-through-n c = c.unpacked-rule.ensures.part_sum_low
-
-pub offset_bounds-sizes-q : goal.offset_bounds-sizes-q
-offset_bounds-sizes-q c = scaled_Fits _ 2304 8 c.unpacked-rule.ensures.other_size_low (lit< tt)
-
-pub bounds-sizes-q : goal.bounds-sizes-q
-bounds-sizes-q c = c.unpacked-rule.ensures.other_size_low
-
 pub risen-new-requires : goal.risen-new-requires
 risen-new-requires c =
     let L = c.loop-i in
@@ -97,42 +41,6 @@ pub overflow_add-last : goal.overflow_add-last
 overflow_add-last c =
     let L = c.loop-i in
     next_fits (rule_there L.invariant.0 c.if-i-end.true) c.requires.count_in_bounds.1
-
-pub offset_bounds-sizes-x-then-x-lt2304-2 : goal.offset_bounds-sizes-x-then-x-lt2304-2
-offset_bounds-sizes-x-then-x-lt2304-2 c = scaled_Fits _ 2304 8 c.if-x-lt2304-2.true (lit< tt)
-
-pub bounds-sizes-x-then-x-lt2304-2 : goal.bounds-sizes-x-then-x-lt2304-2
-bounds-sizes-x-then-x-lt2304-2 c = c.if-x-lt2304-2.true
-
-pub offset_bounds-after-m-then-x-lt2816 : goal.offset_bounds-after-m-then-x-lt2816
-offset_bounds-after-m-then-x-lt2816 c =
-    let u = c.unpacked-rule in
-    scaled_Fits _ 512 8 u.ensures.head_sum_low (lit< tt)
-
-pub bounds-after-m-then-x-lt2816 : goal.bounds-after-m-then-x-lt2816
-bounds-after-m-then-x-lt2816 c =
-    let u = c.unpacked-rule in
-    u.ensures.head_sum_low
-
-pub offset_bounds-before-m-then-x-lt3328 : goal.offset_bounds-before-m-then-x-lt3328
-offset_bounds-before-m-then-x-lt3328 c =
-    let u = c.unpacked-rule in
-    scaled_Fits _ 512 8 u.ensures.head_sum_low (lit< tt)
-
-pub bounds-before-m-then-x-lt3328 : goal.bounds-before-m-then-x-lt3328
-bounds-before-m-then-x-lt3328 c =
-    let u = c.unpacked-rule in
-    u.ensures.head_sum_low
-
-pub offset_bounds-through-m-else-x-lt3328 : goal.offset_bounds-through-m-else-x-lt3328
-offset_bounds-through-m-else-x-lt3328 c =
-    let u = c.unpacked-rule in
-    scaled_Fits _ 512 8 u.ensures.head_sum_low (lit< tt)
-
-pub bounds-through-m-else-x-lt3328 : goal.bounds-through-m-else-x-lt3328
-bounds-through-m-else-x-lt3328 c =
-    let u = c.unpacked-rule in
-    u.ensures.head_sum_low
 
 pub overflow_add-i : goal.overflow_add-i
 overflow_add-i c =

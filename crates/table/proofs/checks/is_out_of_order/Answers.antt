@@ -8,7 +8,6 @@ use Rattle.table.specs.Checks.{out_of_order}
 use Rattle.table.proofs.checks.is_out_of_order.Goals as goal
 
 -- a record with one before it
-
 later : (t : List ℕ) (r : ℕ) → (r ≡ 0 → ⊥) → out_of_order t r ≡ ltb (kind_of t r) (kind_of t (r - 1))
 unfolding out_of_order
 later t zero h = absurd (h refl)

@@ -7,7 +7,6 @@ use Rattle.table.specs.declared.Test.{Test}
 use Rattle.table.proofs.checks.passes.Goals as goal
 
 -- what the case tests, the test tests
-
 as_told : (t : List ℕ) (r : ℕ) {test one : Test} {b : Bool} → test ≡ one → b ≡ test_of one t r → b ≡ test_of test t r
 as_told t r e h = rw e h
 
