@@ -3,7 +3,7 @@ use Prim.Native.Nat.{ℕ}
 use mathlib.Core.Path.{◌≡◌, refl, sym, ap₂, subst}
 use mathlib.Core.Bool.{Bool, true, false, not, ◌&&◌}
 use mathlib.Core.List.{List, [], ◌∷◌}
-use mathlib.Core.Option.{Option, none, some}
+use Rattle.std.specs.Prelude.{Option, None, Some}
 use lib.Dec.{eqb, leb}
 use lib.ListN.{length}
 use borrow.Author.Tests.{eqb-true, leb-true, not-true}
@@ -42,23 +42,23 @@ same_is (x ∷ l) [] e = not_both false e refl
 same_is (x ∷ l) (y ∷ m) e = ap₂ ◌∷◌ (eqb-true x y (and_true_left (eqb x y) (same l m) e)) (same_is l m (and_true_right (eqb x y) (same l m) e))
 
 abbrev is_accepted : Option Refusal → Bool
-is_accepted none = true
-is_accepted (some r) = false
+is_accepted None = true
+is_accepted (Some r) = false
 
-accepted_is : (o : Option Refusal) → is_accepted o ≡ true → o ≡ none
-accepted_is none e = refl
-accepted_is (some r) e = not_both false e refl
+accepted_is : (o : Option Refusal) → is_accepted o ≡ true → o ≡ None
+accepted_is None e = refl
+accepted_is (Some r) e = not_both false e refl
 
 abbrev is_refused : ℕ → ℕ → Option Refusal → Bool
-is_refused number place none = false
-is_refused number place (some r) = eqb r.number number && eqb r.place place
+is_refused number place None = false
+is_refused number place (Some r) = eqb r.number number && eqb r.place place
 
-refused_is : (number place : ℕ) (o : Option Refusal) → is_refused number place o ≡ true → o ≡ some (refused_at number place)
-refused_is number place none e = not_both false e refl
-refused_is number place (some r) e =
+refused_is : (number place : ℕ) (o : Option Refusal) → is_refused number place o ≡ true → o ≡ Some (refused_at number place)
+refused_is number place None e = not_both false e refl
+refused_is number place (Some r) e =
     let a = eqb-true r.number number (and_true_left _ _ e) in
     let b = eqb-true r.place place (and_true_right (eqb r.number number) _ e) in
-    ap₂ (λ (n p : ℕ). some (refused_at n p)) a b
+    ap₂ (λ (n p : ℕ). Some (refused_at n p)) a b
 
 -- ---- claims
 

@@ -1,6 +1,5 @@
 -- Document 01, "Cases to hold as one": what is said of a table there, each in the words of the rules themselves.
-use Rattle.std.specs.Prelude.{ℕ, ◌≡◌, Bool, false, List, [], ◌∷◌}
-use Rattle.std.proofs.Math.Option.{some}
+use Rattle.std.specs.Prelude.{ℕ, ◌≡◌, Bool, false, List, [], ◌∷◌, Some}
 use Rattle.table.specs.Refusal.{refusal, refused_at}
 use Rattle.table.specs.Checks.{checks, Accepted}
 use Rattle.table.specs.Program.{Program, program_of}
@@ -37,7 +36,7 @@ Says t (sized c f k size) =
     × ((sizes : ℕ → ℕ) × LeastSizes (program_of t) (choice_of c) sizes × (of_function (program_of t) sizes k f ≡ size))
 Says t (unsafe c) = Accepted t × ChoiceFor (program_of t) (choice_of c) × (Safe (program_of t) (choice_of c) → ⊥)
 Says t (not_synchronising n) = Accepted t × ((set : ℕ → Bool) × Synchronising (program_of t) set × (set n ≡ false))
-Says t (refused number place) = refusal checks t ≡ some (refused_at number place)
+Says t (refused number place) = refusal checks t ≡ Some (refused_at number place)
 
 -- A table with what is said of it, and that all of it is true.
 pub record Case : Type 0 where

@@ -3,7 +3,7 @@ use Prim.Native.Nat.{ℕ, ◌<◌, ◌≤◌}
 use mathlib.Core.Path.{◌≡◌, refl, sym, ◌∙◌}
 use mathlib.Core.Bool.{cond}
 use mathlib.Core.List.Memᴰ
-use mathlib.Core.Option.{none, some}
+use Rattle.std.specs.Prelude.{None, Some}
 use native.Mathlib.Omega.{arith}
 use lib.ListN.{drop}
 use borrow.Author.Tests.{lt-ltb, le-ltb, ltb-false}
@@ -51,11 +51,11 @@ module _ (x : BestCall) (a : Accepted x.table) where
 
 ruleset in_List = (Memᴰ.head, Memᴰ.tail)
 
-verdicts_fit : (x : BestCall) → refusal buffer_checks x ≡ none → (program_of x.table).nodes ≤ x.verdicts
+verdicts_fit : (x : BestCall) → refusal buffer_checks x ≡ None → (program_of x.table).nodes ≤ x.verdicts
 unfolding buffer_checks few_verdicts
 verdicts_fit x e =
     ltb-false _ _
-    (not_applied (few_verdicts x) (program_of x.table).nodes (refusal_none x buffer_checks e (record { number = 10; place = λ y. cond (few_verdicts y) (some (program_of y.table).nodes) none }) (search in_List depth 40)))
+    (not_applied (few_verdicts x) (program_of x.table).nodes (refusal_none x buffer_checks e (record { number = 10; place = λ y. cond (few_verdicts y) (Some (program_of y.table).nodes) None }) (search in_List depth 40)))
 
 -- what an admitted call has: nothing is refused, both results fit, and its table is known
 pub record Admission (x : BestCall) (seen : Seen) : Type 0 where

@@ -1,6 +1,5 @@
 -- Document 01, "Refused tables": the checks of the best-choice call, and what it leaves in the lent buffers.
-use Rattle.std.specs.Prelude.{ℕ, ◌≡◌, Bool, cond, List, [], ◌∷◌, ◌++◌, map, ltb}
-use Rattle.std.proofs.Math.Option.{some, none}
+use Rattle.std.specs.Prelude.{ℕ, ◌≡◌, Bool, cond, List, [], ◌∷◌, ◌++◌, map, ltb, Some, None}
 use Rattle.table.specs.Refusal.{Check, over, refusal}
 use Rattle.table.specs.Checks.{checks}
 use Rattle.table.specs.Program.{program_of}
@@ -26,7 +25,7 @@ few_verdicts x = ltb x.verdicts (program_of x.table).nodes
 -- 10 and 11. Place: "length needed".
 unfoldable pub buffer_checks : List (Check BestCall)
 buffer_checks =
-    record { number = 10; place = λ x. cond (few_verdicts x) (some (program_of x.table).nodes) none }
+    record { number = 10; place = λ x. cond (few_verdicts x) (Some (program_of x.table).nodes) None }
     ∷ sizes_row (λ (x : BestCall). x.table) (λ (x : BestCall). x.buffer)
     ∷ []
 

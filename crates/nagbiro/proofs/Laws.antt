@@ -2,7 +2,7 @@
 use Prim.Native.Nat.{ℕ, ◌≤◌}
 use mathlib.Core.Path.{◌≡◌, refl, sym, ap, ◌∙◌}
 use mathlib.Core.List.{List, [], ◌∷◌, ◌++◌, map}
-use mathlib.Core.Option.{Option, none, some}
+use Rattle.std.specs.Prelude.{Option, None, Some}
 use native.Mathlib.Omega.{arith}
 use borrow.Author.Rules.{rules}
 use Rattle.table.specs.Refusal.{Check, Refusal, over, refusal}
@@ -25,14 +25,14 @@ numbered_over part (c ∷ cs) ds h k = (h.0, numbered_over part cs ds h.1 k)
 
 -- so nothing is refused under 0
 module _ {X : Type 0} (x : X) where
-  none_zero : (cs : List (Check X)) → Numbered cs → code_of (result_for (refusal cs x)) ≡ 0 → refusal cs x ≡ none
+  none_zero : (cs : List (Check X)) → Numbered cs → code_of (result_for (refusal cs x)) ≡ 0 → refusal cs x ≡ None
   unfolding result_for refusal
   none_zero [] h e = refl
   none_zero (c ∷ cs) h e = go (c.place x) refl (none_zero cs h.1)
     where
-      go : (o : Option ℕ) → c.place x ≡ o → (code_of (result_for (refusal cs x)) ≡ 0 → refusal cs x ≡ none) → refusal (c ∷ cs) x ≡ none
-      go none q later = refusal_pass x c cs q ∙ later (ap (λ r. code_of (result_for r)) (sym (refusal_pass x c cs q)) ∙ e)
-      go (some p) q later =
+      go : (o : Option ℕ) → c.place x ≡ o → (code_of (result_for (refusal cs x)) ≡ 0 → refusal cs x ≡ None) → refusal (c ∷ cs) x ≡ None
+      go None q later = refusal_pass x c cs q ∙ later (ap (λ r. code_of (result_for r)) (sym (refusal_pass x c cs q)) ∙ e)
+      go (Some p) q later =
           let z : c.number ≡ 0 = ap (λ r. code_of (result_for r)) (sym (refusal_here x c cs q)) ∙ e in
           absurd (omega (arith, h.0, z))
 
@@ -50,8 +50,8 @@ buffers_numbered = numbered_over (λ (x : BestCall). x.table) checks buffer_chec
 
 same_code : (t : List ℕ) (o : Option Refusal) → code_of (result_for o) ≡ code_of (table_result (outcome_for t o))
 unfolding result_for outcome_for
-same_code t none = refl
-same_code t (some r) = refl
+same_code t None = refl
+same_code t (Some r) = refl
 
 -- a check, and the synchronising set
 pub table_zero : (t : List ℕ) → code_of (table_result (outcome t)) ≡ 0 → Accepted t

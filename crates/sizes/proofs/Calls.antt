@@ -3,7 +3,8 @@ use Prim.Native.Nat.{ℕ, ◌<◌, ◌≤◌}
 use mathlib.Core.Path.{◌≡◌, refl, sym, ap, ◌∙◌}
 use mathlib.Core.Bool.{Bool, true, false, true≢false, not, cond, ◌&&◌, ◌||◌}
 use mathlib.Core.List.{List, [], ◌∷◌, ◌++◌, map, Memᴰ}
-use mathlib.Core.Option.{Option, none, some, some-ne-none}
+use Rattle.std.specs.Prelude.{Option, None, Some}
+use Rattle.table.proofs.Booleans.{some_not_none}
 use native.Mathlib.Omega.{arith}
 use lib.Dec.{eqb, leb}
 use lib.ListN.{length, drop}
@@ -35,21 +36,21 @@ is_done done = true
 is_done (refused n p) = false
 
 module _ {X : Type 0} (cs : List (Check X)) (x : X) where
-  pub told_refused : (n p : ℕ) → refusal cs x ≡ some (refused_at n p) → refused n p ≡ result_for (refusal cs x)
+  pub told_refused : (n p : ℕ) → refusal cs x ≡ Some (refused_at n p) → refused n p ≡ result_for (refusal cs x)
   unfolding result_for
   told_refused n p e = ap result_for (sym e)
 
-  pub told_done : refusal cs x ≡ none → done ≡ result_for (refusal cs x)
+  pub told_done : refusal cs x ≡ None → done ≡ result_for (refusal cs x)
   unfolding result_for
   told_done e = ap result_for (sym e)
 
-  pub none_refused : done ≡ result_for (refusal cs x) → refusal cs x ≡ none
+  pub none_refused : done ≡ result_for (refusal cs x) → refusal cs x ≡ None
   unfolding result_for
   none_refused e = go (refusal cs x) refl
     where
-      go : (o : Option Refusal) → refusal cs x ≡ o → refusal cs x ≡ none
-      go none q = q
-      go (some r) q = absurd (true≢false (ap is_done (e ∙ ap result_for q)))
+      go : (o : Option Refusal) → refusal cs x ≡ o → refusal cs x ≡ None
+      go None q = q
+      go (Some r) q = absurd (true≢false (ap is_done (e ∙ ap result_for q)))
 
 -- where those on the table come first: the first of them that applies decides, and the table is accepted if none of all does
 module _ {X : Type 0} (table : X → List ℕ) (cs : List (Check X)) (x : X) where
@@ -58,32 +59,32 @@ module _ {X : Type 0} (table : X → List ℕ) (cs : List (Check X)) (x : X) whe
   table_refused {n} {p} e = go (refusal checks (table x)) refl
     where
       go : (o : Option Refusal) → refusal checks (table x) ≡ o → refused n p ≡ result_for (refusal (map (over table) checks ++ cs) x)
-      go none q = absurd (true≢false (sym (ap is_done (e ∙ ap result_for q))))
-      go (some r) q = e ∙ ap result_for (q ∙ sym (refusal_over_some table cs x checks q))
+      go None q = absurd (true≢false (sym (ap is_done (e ∙ ap result_for q))))
+      go (Some r) q = e ∙ ap result_for (q ∙ sym (refusal_over_some table cs x checks q))
 
-  pub table_accepted : refusal (map (over table) checks ++ cs) x ≡ none → Accepted (table x)
+  pub table_accepted : refusal (map (over table) checks ++ cs) x ≡ None → Accepted (table x)
   table_accepted e = go (refusal checks (table x)) refl
     where
-      go : (o : Option Refusal) → refusal checks (table x) ≡ o → refusal checks (table x) ≡ none
-      go none q = q
-      go (some r) q = absurd (some-ne-none r (sym (refusal_over_some table cs x checks q) ∙ e))
+      go : (o : Option Refusal) → refusal checks (table x) ≡ o → refusal checks (table x) ≡ None
+      go None q = q
+      go (Some r) q = absurd (some_not_none r (sym (refusal_over_some table cs x checks q) ∙ e))
 
 -- the row of the sizes buffer: what it says where it is the last one left, and what it sees to
 module _ {X : Type 0} (table : X → List ℕ) (buffer : X → ℕ) (x : X) where
   module _ (needed : ℕ) (e : needed ≡ entries (program_of (table x))) where
-    pub sizes_short : buffer x < needed → refusal (sizes_row table buffer ∷ []) x ≡ some (refused_at 11 needed)
+    pub sizes_short : buffer x < needed → refusal (sizes_row table buffer ∷ []) x ≡ Some (refused_at 11 needed)
     unfolding too_short
     sizes_short b =
         let s : buffer x < entries (program_of (table x)) = omega arith in
         refusal_here x (sizes_row table buffer) [] (rw (lt-ltb (buffer x) (entries (program_of (table x))) s, e) refl)
 
-    pub sizes_long : needed ≤ buffer x → refusal (sizes_row table buffer ∷ []) x ≡ none
+    pub sizes_long : needed ≤ buffer x → refusal (sizes_row table buffer ∷ []) x ≡ None
     unfolding too_short refusal
     sizes_long b =
         let s : entries (program_of (table x)) ≤ buffer x = omega arith in
         refusal_pass x (sizes_row table buffer) [] (rw (le-ltb (buffer x) (entries (program_of (table x))) s) refl)
 
-  pub sizes_fit : (cs : List (Check X)) → Memᴰ (sizes_row table buffer) cs → refusal cs x ≡ none → entries (program_of (table x)) ≤ buffer x
+  pub sizes_fit : (cs : List (Check X)) → Memᴰ (sizes_row table buffer) cs → refusal cs x ≡ None → entries (program_of (table x)) ≤ buffer x
   unfolding too_short
   sizes_fit cs m e = ltb-false _ _ (not_applied (too_short (table x) (buffer x)) (entries (program_of (table x))) (refusal_none x cs e (sizes_row table buffer) m))
 
@@ -138,12 +139,12 @@ pub record Valid (x : Call) : Type 0 where
   pub choice_for : ChoiceFor (program_of x.table) (choice_of x.choice)
   pub fits : entries (program_of x.table) ≤ x.buffer
 
-module _ (x : Call) (e : refusal choice_checks x ≡ none) where
+module _ (x : Call) (e : refusal choice_checks x ≡ None) where
   length_right : length x.choice ≡ (program_of x.table).nodes
   unfolding choice_checks wrong_length
   length_right =
       eqb-true _ _
-      (not-false _ (not_applied (wrong_length x) (program_of x.table).nodes (refusal_none x choice_checks e (record { number = 9; place = λ y. cond (wrong_length y) (some (program_of y.table).nodes) none }) (search in_List depth 40))))
+      (not-false _ (not_applied (wrong_length x) (program_of x.table).nodes (refusal_none x choice_checks e (record { number = 9; place = λ y. cond (wrong_length y) (Some (program_of y.table).nodes) None }) (search in_List depth 40))))
 
   none_outside : (n : ℕ) → n < (program_of x.table).nodes → outside x.table x.choice n ≡ false
   unfolding choice_checks

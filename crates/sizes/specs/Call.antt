@@ -1,6 +1,5 @@
 -- Document 01, "Refused tables": the checks of a call that is handed a choice and a sizes buffer, and what it answers.
-use Rattle.std.specs.Prelude.{ℕ, ◌≡◌, Bool, not, cond, ◌&&◌, ◌||◌, List, [], ◌∷◌, ◌++◌, map, eqb, leb, ltb, length, get_or}
-use Rattle.std.proofs.Math.Option.{Option, none, some}
+use Rattle.std.specs.Prelude.{ℕ, ◌≡◌, Bool, not, cond, ◌&&◌, ◌||◌, List, [], ◌∷◌, ◌++◌, map, eqb, leb, ltb, length, get_or, Option, None, Some}
 use Rattle.table.specs.Below.{earliest}
 use Rattle.table.specs.Refusal.{Check, Refusal, over, refusal}
 use Rattle.table.specs.Record.{spawn}
@@ -39,12 +38,12 @@ too_short t buffer = ltb buffer (entries (program_of t))
 
 -- Its row, in any call that is handed a table and a sizes buffer. Place: "length needed".
 abbrev pub sizes_row : {X : Type 0} → (X → List ℕ) → (X → ℕ) → Check X
-sizes_row table buffer = record { number = 11; place = λ x. cond (too_short (table x) (buffer x)) (some (entries (program_of (table x)))) none }
+sizes_row table buffer = record { number = 11; place = λ x. cond (too_short (table x) (buffer x)) (Some (entries (program_of (table x)))) None }
 
 -- "in 9 a wrong length goes before a wrong byte", "the earliest [..] node"
 unfoldable pub choice_checks : List (Check Call)
 choice_checks =
-    record { number = 9; place = λ x. cond (wrong_length x) (some (program_of x.table).nodes) none }
+    record { number = 9; place = λ x. cond (wrong_length x) (Some (program_of x.table).nodes) None }
     ∷ record { number = 9; place = λ x. earliest (outside x.table x.choice) (program_of x.table).nodes }
     ∷ sizes_row (λ (x : Call). x.table) (λ (x : Call). x.buffer)
     ∷ []
@@ -59,8 +58,8 @@ pub data Result : Type 0 where
   refused : (number place : ℕ) → Result
 
 unfoldable pub result_for : Option Refusal → Result
-result_for none = done
-result_for (some r) = refused r.number r.place
+result_for None = done
+result_for (Some r) = refused r.number r.place
 
 -- by the checks on its table alone, and by all of them
 unfoldable pub table_result : List ℕ → Result

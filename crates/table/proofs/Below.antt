@@ -4,17 +4,19 @@ use mathlib.Core.Path.{◌≡◌, refl, sym, ap, ◌∙◌, subst}
 use mathlib.Core.List.{List}
 use mathlib.Core.Bool.{Bool, true, false, not, cond, ◌&&◌, ◌||◌}
 use mathlib.Core.Logic.{◌⊎◌, ⊎_elim}
-use mathlib.Core.Option.{Option, none, some, or_else, some-ne-none}
+use Rattle.std.specs.Prelude.{Option, None, Some, unwrap_or, is_none}
+use Rattle.std.specs.Option.{option_or}
+use Rattle.table.proofs.Booleans.{some_not_none}
 use native.Mathlib.Nat.{eq-or-lt_of_le}
 use native.Mathlib.Omega.{arith}
 use native.Mathlib.Numerals.{add-one}
 use lib.Dec.{leb, ltb}
-use borrow.Author.Tests.{leb-true, leb-false, lt-ltb, le-ltb}
+use borrow.Author.Tests.{leb-false, lt-ltb, le-ltb}
 use borrow.Author.Count.{below_more}
 use Rattle.table.specs.Below.{earliest, any, count}
 use Rattle.table.specs.Record.{records, is_function, functions}
-use Rattle.table.specs.Scan.{First}
-use Rattle.table.proofs.Booleans.{either_way, not_both, or_true}
+use Rattle.table.specs.Scan.{FirstBy}
+use Rattle.table.proofs.Booleans.{not_both, or_true}
 
 -- below a bound, and one more: the last one or one before it
 pub last_or_before : (k n : ℕ) → k < suc n → (k ≡ n) ⊎ (k < n)
@@ -22,35 +24,55 @@ last_or_before k n h = eq-or-lt_of_le (omega arith)
 
 -- ---- earliest
 
-neither : (o : Option ℕ) (b : Bool) (n : ℕ) → or_else o (cond b (some n) none) ≡ none → (o ≡ none) × (b ≡ false)
-unfolding or_else
-neither none true n e = absurd (some-ne-none n e)
-neither none false n e = (refl, refl)
-neither (some p) b n e = absurd (some-ne-none p e)
+neither : (o : Option ℕ) (b : Bool) (n : ℕ) → option_or o (cond b (Some n) None) ≡ None → (o ≡ None) × (b ≡ false)
+neither None true n e = absurd (some_not_none n e)
+neither None false n e = (refl, refl)
+neither (Some p) b n e = absurd (some_not_none p e)
 
 module _ (f : ℕ → Bool) where
   -- none passes: none is found, and the other way round
-  pub earliest_none : (n : ℕ) → ((k : ℕ) → k < n → f k ≡ false) → earliest f n ≡ none
-  unfolding earliest or_else
+  pub earliest_none : (n : ℕ) → ((k : ℕ) → k < n → f k ≡ false) → earliest f n ≡ None
+  unfolding earliest
   earliest_none zero h = refl
   earliest_none (suc n) h = rw (earliest_none n (λ k l. h k (omega arith)), h n (omega arith)) refl
 
-  pub earliest_passed : (n : ℕ) → earliest f n ≡ none → (k : ℕ) → k < n → f k ≡ false
-  unfolding earliest or_else
+  pub earliest_passed : (n : ℕ) → earliest f n ≡ None → (k : ℕ) → k < n → f k ≡ false
+  unfolding earliest
   earliest_passed zero e k h = absurd (omega arith)
   earliest_passed (suc n) e k h =
       let w = neither (earliest f n) (f n) n e in
       ⊎_elim (λ (i : k ≡ n). ap f i ∙ w.1) (λ (l : k < n). earliest_passed n w.0 k l) (last_or_before k n h)
 
   -- the least one that passes is found, however far the search goes on
-  pub earliest_some : (n r : ℕ) → r < n → ((k : ℕ) → k < r → f k ≡ false) → f r ≡ true → earliest f n ≡ some r
-  unfolding earliest or_else
+  pub earliest_some : (n r : ℕ) → r < n → ((k : ℕ) → k < r → f k ≡ false) → f r ≡ true → earliest f n ≡ Some r
+  unfolding earliest
   earliest_some zero r l b h = absurd (omega arith)
   earliest_some (suc n) r l b h =
       ⊎_elim
-      (λ (e : r ≡ n). subst (λ (m : ℕ). or_else (earliest f m) (cond (f m) (some m) none) ≡ some r) e (rw (earliest_none r b, h) refl))
+      (λ (e : r ≡ n). subst (λ (m : ℕ). option_or (earliest f m) (cond (f m) (Some m) None) ≡ Some r) e (rw (earliest_none r b, h) refl))
       (λ (l : r < n). rw (earliest_some n r l b h) refl)
       (last_or_before r n l)
+
+  pub earliest_found : (n r : ℕ) → earliest f n ≡ Some r → (r < n) × (f r ≡ true)
+  unfolding earliest
+  earliest_found zero r e = absurd (some_not_none r (sym e))
+  earliest_found (suc n) r e = go (earliest f n) refl (f n) refl e (earliest_found n r)
+    where
+      go : (o : Option ℕ) → earliest f n ≡ o → (b : Bool) → f n ≡ b → option_or o (cond b (Some n) None) ≡ Some r → (earliest f n ≡ Some r → (r < n) × (f r ≡ true)) → (r < suc n) × (f r ≡ true)
+      go (Some p) h b k e ih = let w = ih (h ∙ e) in (omega (arith, w.0), w.1)
+      go None h true k e ih = let i : n ≡ r = cc in (omega arith, ap f (sym i) ∙ k)
+      go None h false k e ih = absurd (some_not_none r (sym e))
+
+  -- however far the search goes on
+  pub earliest_before : (n r : ℕ) → earliest f n ≡ Some r → (k : ℕ) → k < r → f k ≡ false
+  unfolding earliest
+  earliest_before zero r e = absurd (some_not_none r (sym e))
+  earliest_before (suc n) r e = go (earliest f n) refl (f n) refl e (earliest_before n r)
+    where
+      go : (o : Option ℕ) → earliest f n ≡ o → (b : Bool) → f n ≡ b → option_or o (cond b (Some n) None) ≡ Some r → (earliest f n ≡ Some r → (k : ℕ) → k < r → f k ≡ false) → (k : ℕ) → k < r → f k ≡ false
+      go (Some p) h b t e ih = ih (h ∙ e)
+      go None h true t e ih = let i : n ≡ r = cc in λ k l. earliest_passed n h k (omega arith)
+      go None h false t e ih = absurd (some_not_none r (sym e))
 
 -- ---- any
 
@@ -86,49 +108,49 @@ any_more f n = rw add-one refl
 
 -- ---- a search upwards
 
--- where it stands: none of the numbers passed is one to find
-pub record Passed (f : ℕ → Bool) (n i : ℕ) : Type 0 where
-  pub within : i ≤ n
-  pub before : (k : ℕ) → k < i → f k ≡ false
+-- one more number that the test does not pass
+pub passed_more : (f : ℕ → Bool) (i : ℕ) → ((k : ℕ) → k < i → f k ≡ false) → f i ≡ false → (k : ℕ) → k < i + 1 → f k ≡ false
+passed_more f i h e = below_more _ _ h e
 
-module _ (f : ℕ → Bool) (n : ℕ) where
-  pub passed_none : Passed f n 0
-  passed_none = record { within = omega arith; before = λ k h. absurd (omega arith) }
+-- what a search by a closure finds is the least number that passes the test
+pub first_by : {gives : ℕ → Bool → Type 0} {n : ℕ} {o : Option ℕ} (f : ℕ → Bool) → FirstBy gives n o → ((k : ℕ) (b : Bool) → gives k b → b ≡ f k) → o ≡ earliest f n
+first_by {n = n} {o = o} f h same = go o refl
+  where
+    go : (p : Option ℕ) → o ≡ p → p ≡ earliest f n
+    go None e = sym (earliest_none f n (λ k l. sym (same k false (h.nowhere e k l))))
+    go (Some r) e = sym (earliest_some f n r (h.within r e) (λ k l. sym (same k false (h.before r e k l))) (sym (same r true (h.here r e))))
 
-  pub passed_more : (i : ℕ) → i < n → Passed f n i → f i ≡ false → Passed f n (i + 1)
-  passed_more i h p e = record { within = omega arith; before = below_more _ _ p.before e }
-
-  pub found_here : (i : ℕ) → Passed f n i → f i ≡ true → First f n i
-  found_here i p e = record { within = p.within; before = p.before; here = λ h. e }
-
-  pub found_nowhere : (i : ℕ) → Passed f n i → n ≤ i → First f n i
-  found_nowhere i p h = record { within = p.within; before = p.before; here = λ l. absurd (omega arith) }
-
--- what the search found, as the specifications say it
-module _ (f : ℕ → Bool) (n r : ℕ) (p : First f n r) where
-  pub first_some : r < n → earliest f n ≡ some r
-  first_some h = earliest_some f n r h p.before (p.here h)
-
-  pub first_none : n ≤ r → earliest f n ≡ none
-  first_none h = earliest_none f n (λ k l. p.before k (omega arith))
-
-  pub first_not_any : not (any f n) ≡ leb n r
-  first_not_any =
-      ⊎_elim
-      (λ (e : leb n r ≡ true). rw (e, any_none f n (λ k l. p.before k (omega (arith, leb-true n r e)))) refl)
-      (λ (e : leb n r ≡ false). rw (e, any_some f n r (leb-false n r e) (p.here (leb-false n r e))) refl)
-      (either_way (leb n r))
+-- whether one passes at all
+pub any_told : (f : ℕ → Bool) (n : ℕ) → not (any f n) ≡ is_none (earliest f n)
+any_told f n = go (earliest f n) refl
+  where
+    go : (o : Option ℕ) → earliest f n ≡ o → not (any f n) ≡ is_none o
+    go None e = rw (any_none f n (earliest_passed f n e)) refl
+    go (Some r) e = let w = earliest_found f n r e in rw (any_some f n r w.0 w.1) refl
 
 -- a second search, below where the first stopped: the first of either
-pub first_either : (f g : ℕ → Bool) (n a b : ℕ) → First f n a → First g a b → First (λ k. f k || g k) n b
-first_either f g n a b p q = record {
-  within = omega (arith, p.within, q.within);
-  before = λ k h. rw (p.before k (omega (arith, q.within)), q.before k h) refl;
-  here = λ h. ⊎_elim (λ (e : b ≡ a). left h e) (λ (l : b < a). rw (q.here l) (or_true (f b))) (eq-or-lt_of_le q.within);
-}
+pub earliest_either : (f g : ℕ → Bool) (n : ℕ) → option_or (earliest g (unwrap_or (earliest f n) n)) (earliest f n) ≡ earliest (λ k. f k || g k) n
+earliest_either f g n = go (earliest f n) refl
   where
-    left : b < n → b ≡ a → (f b || g b) ≡ true
-    left h e = rw (ap f e ∙ p.here (omega (arith, e))) refl
+    either : (k : ℕ) → f k ≡ false → g k ≡ false → (f k || g k) ≡ false
+    either k a b = rw (a, b) refl
+
+    -- the second search goes up to m, below which the first finds none
+    up_to : (m : ℕ) → ((k : ℕ) → k < m → f k ≡ false) → (o : Option ℕ) → earliest g m ≡ o → (last : Option ℕ) → (o ≡ None → last ≡ earliest (λ k. f k || g k) n) → m ≤ n → option_or o last ≡ earliest (λ k. f k || g k) n
+    up_to m none (Some r) e last h le =
+        let w = earliest_found g m r e in
+        let b = earliest_before g m r e in
+        sym (earliest_some (λ k. f k || g k) n r (omega (arith, w.0)) (λ k l. either k (none k (omega (arith, w.0))) (b k l)) (rw w.1 (or_true (f r))))
+    up_to m none None e last h le = h refl
+
+    go : (o : Option ℕ) → earliest f n ≡ o → option_or (earliest g (unwrap_or o n)) o ≡ earliest (λ k. f k || g k) n
+    go None e =
+        let none = earliest_passed f n e in
+        up_to n none (earliest g n) refl None (λ h. sym (earliest_none (λ k. f k || g k) n (λ k l. either k (none k l) (earliest_passed g n h k l)))) (omega arith)
+    go (Some a) e =
+        let w = earliest_found f n a e in
+        let none = earliest_before f n a e in
+        up_to a none (earliest g a) refl (Some a) (λ h. sym (earliest_some (λ k. f k || g k) n a w.0 (λ k l. either k (none k l) (earliest_passed g a h k l)) (rw w.1 refl))) (omega (arith, w.0))
 
 -- ---- count
 

@@ -3,17 +3,17 @@ use Prim.Native.Nat.{ℕ, ◌+◌, ◌<◌, ◌≤◌}
 use mathlib.Core.Path.{◌≡◌}
 use mathlib.Core.List.{List}
 use mathlib.Core.Bool.{true}
-use mathlib.Core.Option.{some}
+use Rattle.std.specs.Prelude.{Some, Ok, Err}
 use lib.Dec.{eqb}
 use Rattle.table.specs.Refusal.{refused_at, refusal}
 use Rattle.table.specs.Record.{records, sort_of, field_a, field_b, field_c, functions, nodes, edges, node_sort, node_owner, node_target, plain}
 use Rattle.table.specs.Checks.{checks, Accepted}
-use Rattle.table.specs.Answer.{outcome, outcome_of, Ready}
+use Rattle.table.specs.Answer.{number_of, outcome, outcome_of, Ready}
 use Rattle.table.specs.Program.{program_of}
 use Rattle.table.specs.WellFormed.{WellFormed}
 use Rattle.table.specs.SameButEdges.{SameButEdges, HasEdge}
 use Rattle.table.specs.declared.Counts.{Counts}
-use Rattle.table.specs.declared.Checked.{Checked}
+use Rattle.table.specs.declared.refusal.Refused.{Refused}
 use Rattle.table.proofs.Fields as fields
 use Rattle.table.proofs.Accepted as accepted
 use Rattle.table.proofs.SameButEdges as same
@@ -21,10 +21,10 @@ use Rattle.table.proofs.Answer as answer
 
 module _ (t : List ℕ) where
   -- the two cases of an answer
-  pub answer_accepted : (c : Counts) → outcome_of (Checked.Accepted c) ≡ outcome t → Ready t c
+  pub answer_accepted : (c : Counts) → outcome_of (Ok c) ≡ outcome t → Ready t c
   answer_accepted = answer.answer_accepted t
 
-  pub answer_refused : (n p : ℕ) → outcome_of (Checked.Refused n p) ≡ outcome t → refusal checks t ≡ some (refused_at n p)
+  pub answer_refused : (e : Refused) → outcome_of (Err e) ≡ outcome t → refusal checks t ≡ Some (refused_at (number_of e.cause) e.place)
   answer_refused = answer.answer_refused t
 
   -- the program's fields, as the table has them

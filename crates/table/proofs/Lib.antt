@@ -10,4 +10,4 @@ mod Fields
 mod Accepted
 mod SameButEdges
 mod Answer
-mod Counting
+mod Scanning

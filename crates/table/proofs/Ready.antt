@@ -5,12 +5,13 @@ use mathlib.Core.List.{List}
 use mathlib.Core.Bool.{true}
 use native.Mathlib.Omega.{arith}
 use lib.Dec.{eqb}
-use Rattle.table.specs.Record.{sort_of, field_a, field_b, field_c, edge_record, edge_from, edge_to}
+use Rattle.table.specs.Record.{sync, sort_of, field_a, field_b, field_c, edge_record, edge_from, edge_to}
 use Rattle.table.specs.Answer.{Ready}
 use Rattle.table.specs.Program.{program_of}
 use Rattle.table.specs.WellFormed.{WellFormed}
 use Rattle.table.specs.declared.Counts.{Counts}
-use Rattle.table.proofs.Laws.{well_formed, few_edges, functions_read, nodes_read, entry_read, first_read, exit_read, frame_read, sort_read, owner_read, target_read, edge_read}
+use Rattle.table.proofs.Laws.{well_formed, functions_read, nodes_read, entry_read, first_read, exit_read, frame_read, sort_read, owner_read, target_read, edge_read}
+use Rattle.table.proofs.Laws as laws
 
 module _ (t : List ℕ) (c : Counts) (r : Ready t c) where
   formed : WellFormed (program_of t)
@@ -23,10 +24,11 @@ module _ (t : List ℕ) (c : Counts) (r : Ready t c) where
   pub few_functions : c.functions ≤ 64
   few_functions = omega (arith, formed.few_functions, functions_read t, r.counts_are.functions_are)
 
+  pub few_edges : c.edges ≤ 1024
+  few_edges = omega (arith, laws.few_edges t r.accepted_is, r.counts_are.edges_are)
+
   pub few_records : c.functions + c.nodes + c.edges ≤ 1600
-  few_records =
-      omega
-      (arith, few_nodes, few_functions, few_edges t r.accepted_is, r.counts_are.edges_are)
+  few_records = omega (arith, few_nodes, few_functions, few_edges)
 
   -- and they are the program's
   pub functions_are : c.functions ≡ (program_of t).functions
@@ -59,6 +61,9 @@ module _ (t : List ℕ) (c : Counts) (r : Ready t c) where
   pub sort_given : (n x : ℕ) → n < c.nodes → x ≡ sort_of t (c.functions + n) → x ≡ (program_of t).sort n
   sort_given n x h e =
       e ∙ ap (λ (m : ℕ). sort_of t (m + n)) r.counts_are.functions_are ∙ sym (sort_read t n (omega (arith, r.counts_are.nodes_are)))
+
+  pub sort_few : (n : ℕ) → n < c.nodes → (program_of t).sort n ≤ sync
+  sort_few n h = formed.sort_listed n (omega (arith, nodes_are))
 
   pub owner_given : (n x : ℕ) → n < c.nodes → x ≡ field_a t (c.functions + n) → (x ≡ (program_of t).owner n) × (x < c.functions)
   owner_given n x h e =

@@ -1,12 +1,11 @@
 -- The numbers below a bound: the least that passes a test, whether one does, and how many do.
-use Rattle.std.specs.Prelude.{ℕ, zero, suc, ◌+◌, Bool, false, cond, ◌||◌}
-use Rattle.std.proofs.Math.Option.{Option, none, some, or_else}
+use Rattle.std.specs.Prelude.{ℕ, zero, suc, ◌+◌, Bool, false, cond, ◌||◌, Option, None, Some}
+use Rattle.std.specs.Option.{option_or}
 
 -- the least number below n that passes the test, if one does
 unfoldable pub earliest : (ℕ → Bool) → ℕ → Option ℕ
-unfolding or_else
-earliest test zero = none
-earliest test (suc n) = or_else (earliest test n) (cond (test n) (some n) none)
+earliest test zero = None
+earliest test (suc n) = option_or (earliest test n) (cond (test n) (Some n) None)
 
 -- whether a number below n passes the test
 unfoldable pub any : (ℕ → Bool) → ℕ → Bool

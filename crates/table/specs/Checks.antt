@@ -1,7 +1,6 @@
 -- Document 01, "Refused tables": the checks on the table itself. Each condition is a definition of its own, and `checks` lists the rows.
 -- A condition on a record makes sense for every record of every table, whatever the rows before it say.
-use Rattle.std.specs.Prelude.{ℕ, zero, suc, ◌%◌, ◌≡◌, List, [], ◌∷◌, Bool, false, not, cond, ◌&&◌, ◌||◌, eqb, leb, ltb, length}
-use Rattle.std.proofs.Math.Option.{Option, none, some}
+use Rattle.std.specs.Prelude.{ℕ, zero, suc, ◌%◌, ◌≡◌, List, [], ◌∷◌, Bool, false, not, cond, ◌&&◌, ◌||◌, eqb, leb, ltb, length, Option, None, Some}
 use Rattle.table.specs.Below.{earliest, any, count}
 use Rattle.table.specs.Refusal.{Check, refusal}
 use Rattle.table.specs.Record.{records, kind_of, sort_of, field_a, field_b, field_c, is_function, is_node, is_edge, functions, nodes, node_owner, node_sort, is_entry, plain, sync, has_target}
@@ -55,7 +54,7 @@ not_plain t r = is_function t r && not (eqb (node_sort t (field_a t r)) plain &&
 
 -- A row about the table as a whole has one place; of a row about a record the place is "the record", the earliest one.
 abbrev pub of_table : (List ℕ → Bool) → (List ℕ → ℕ) → List ℕ → Option ℕ
-of_table condition place t = cond (condition t) (some (place t)) none
+of_table condition place t = cond (condition t) (Some (place t)) None
 
 abbrev pub of_record : (List ℕ → ℕ → Bool) → List ℕ → Option ℕ
 of_record condition t = earliest (condition t) (records t)
@@ -74,4 +73,4 @@ checks =
 
 -- "A table is accepted if none of the checks on the table itself [..] applies to it."
 abbrev pub Accepted : List ℕ → Type 0
-Accepted t = refusal checks t ≡ none
+Accepted t = refusal checks t ≡ None

@@ -1,6 +1,6 @@
 -- Document 01, "Refused tables": how a list of checks decides. What is checked, X, is a table here and more in the crates above.
-use Rattle.std.specs.Prelude.{ℕ, List, [], ◌∷◌}
-use Rattle.std.proofs.Math.Option.{Option, none, or_else, map}
+use Rattle.std.specs.Prelude.{ℕ, List, [], ◌∷◌, Option, None, option_map}
+use Rattle.std.specs.Option.{option_or}
 
 -- "Returned | When | Place": one row. `place` is the earliest place where its condition holds, and none where it holds nowhere.
 pub record Check (X : Type 0) : Type 0 where
@@ -22,6 +22,5 @@ refused_at n p = record { number = n; place = p }
 -- "The lowest number wins, then the earliest record or node": rows stand in a list, in the order in which they win,
 -- and the first that applies gives the refusal.
 unfoldable pub refusal : {X : Type 0} → List (Check X) → X → Option Refusal
-unfolding or_else
-refusal [] x = none
-refusal (c ∷ cs) x = or_else (map (refused_at c.number) (c.place x)) (refusal cs x)
+refusal [] x = None
+refusal (c ∷ cs) x = option_or (option_map (refused_at c.number) (c.place x)) (refusal cs x)

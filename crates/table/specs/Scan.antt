@@ -1,25 +1,21 @@
 -- For the contracts of the passes over the records. Helps proofs only: no public promise rests on it.
-use Rattle.std.specs.Prelude.{ℕ, ◌<◌, ◌≤◌, ◌≡◌, List, Bool, true, false, ◌&&◌, eqb, leb}
+use Rattle.std.specs.Prelude.{ℕ, ◌<◌, ◌≡◌, List, Bool, true, false, ◌&&◌, eqb, leb, Option, None, Some, Result, Ok, Err}
+use Rattle.table.specs.declared.refusal.Cause.{Cause}
+use Rattle.table.specs.declared.refusal.Refused.{Refused}
 use Rattle.table.specs.Below.{count}
-use Rattle.table.specs.Record.{kind_of, is_entry}
-use Rattle.table.specs.Checks.{unlisted, out_of_order, absent, foreign, not_plain}
-use Rattle.table.specs.declared.Test.{Test}
-use Rattle.table.specs.declared.Test.TheVariants.{Unlisted, OutOfOrder, Entry, Absent, Foreign, NotPlain}
+use Rattle.table.specs.Record.{kind_of}
 
--- r is the least number below n that passes the test, or n where none does
-pub record First (test : ℕ → Bool) (n r : ℕ) : Type 0 where
-  pub within : r ≤ n
-  pub before : (k : ℕ) → k < r → test k ≡ false
-  pub here : r < n → test r ≡ true
+-- The first number below n at which a test gives true, if there is one, where the test is known by what it gives.
+pub record FirstBy (gives : ℕ → Bool → Type 0) (n : ℕ) (o : Option ℕ) : Type 0 where
+  pub nowhere : o ≡ None → (k : ℕ) → k < n → gives k false
+  pub within : (r : ℕ) → o ≡ Some r → r < n
+  pub before : (r : ℕ) → o ≡ Some r → (k : ℕ) → k < r → gives k false
+  pub here : (r : ℕ) → o ≡ Some r → gives r true
 
--- the test that a case of `Test` stands for
-abbrev pub test_of : Test → List ℕ → ℕ → Bool
-test_of Unlisted = unlisted
-test_of OutOfOrder = out_of_order
-test_of Entry = is_entry
-test_of Absent = absent
-test_of Foreign = foreign
-test_of NotPlain = not_plain
+-- refused for a cause that was found somewhere
+abbrev pub pass_of : Cause → Option ℕ → Result (Unit {0}) Refused
+pass_of cause None = Ok tt
+pass_of cause (Some p) = Err (record { cause = cause; place = p })
 
 -- record r is of kind k; and as many as the limit stand before it
 abbrev pub of_kind : List ℕ → ℕ → ℕ → Bool

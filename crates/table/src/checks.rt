@@ -3,10 +3,9 @@ ghost use Rattle.std.specs.Prelude.{◌≡◌, ◌<◌};
 ghost use Rattle.table.specs.Record.{node_owner, node_sort, is_entry, has_target};
 ghost use Rattle.table.specs.Checks.{unlisted, out_of_order, absent, foreign, not_plain};
 ghost use Rattle.table.specs.Answer.{CountsOf};
-ghost use Rattle.table.specs.Scan.{test_of};
 
+use crate::Counts;
 use crate::record::{field_a, field_b, field_c, kind, sort};
-use crate::{Counts, Test};
 
 fn has_target(s: u8) -> bool
     ensures { result ≡ has_target s }
@@ -15,7 +14,8 @@ fn has_target(s: u8) -> bool
 }
 
 // 2: a kind or sort that is not listed, or a field that must be 0 and isn't.
-fn is_unlisted(t: &[u8], r: usize) -> bool
+#[tactic(auto, unfolding(crate::specs::Checks::unlisted))]
+pub(crate) fn is_unlisted(t: &[u8], r: usize) -> bool
     ensures { result ≡ unlisted t.now r }
 {
     let k = kind(t, r);
@@ -28,24 +28,23 @@ fn is_unlisted(t: &[u8], r: usize) -> bool
 }
 
 // 3: a kind lower than that of the record before.
-fn is_out_of_order(t: &[u8], r: usize) -> bool
+#[tactic(auto, using(crate::proofs::Scanning::in_order, crate::proofs::Scanning::later))]
+pub(crate) fn is_out_of_order(t: &[u8], r: usize) -> bool
     ensures { result ≡ out_of_order t.now r }
 {
-    if r == 0 {
-        return false;
-    }
-    kind(t, r) < kind(t, r - 1)
+    r != 0 && kind(t, r) < kind(t, r - 1)
 }
 
 // 5 wants one of these.
-fn is_entry(t: &[u8], r: usize) -> bool
+pub(crate) fn is_entry(t: &[u8], r: usize) -> bool
     ensures { result ≡ is_entry t.now r }
 {
     (kind(t, r) == 1) & (sort(t, r) == 1)
 }
 
 // 6: a function or node number that doesn't exist.
-fn is_absent(t: &[u8], of: Counts, r: usize) -> bool
+#[tactic(auto, unfolding(crate::specs::Checks::absent))]
+pub(crate) fn is_absent(t: &[u8], of: Counts, r: usize) -> bool
     requires { CountsOf t.now of }
     ensures { result ≡ absent t.now r }
 {
@@ -60,6 +59,7 @@ fn is_absent(t: &[u8], of: Counts, r: usize) -> bool
 }
 
 // The owner of node n.
+#[tactic(auto, using(crate::proofs::Below::functions_fit))]
 fn owner(t: &[u8], of: Counts, n: usize) -> usize
     requires { CountsOf t.now of × (n < 65536) }
     ensures { result ≡ node_owner t.now n }
@@ -68,6 +68,7 @@ fn owner(t: &[u8], of: Counts, n: usize) -> usize
 }
 
 // The sort of node n.
+#[tactic(auto, using(crate::proofs::Below::functions_fit))]
 fn node_sort(t: &[u8], of: Counts, n: usize) -> u8
     requires { CountsOf t.now of × (n < 65536) }
     ensures { result ≡ node_sort t.now n }
@@ -76,7 +77,8 @@ fn node_sort(t: &[u8], of: Counts, n: usize) -> u8
 }
 
 // 7: a first or exit node that another function owns, or an edge between two functions.
-fn is_foreign(t: &[u8], of: Counts, r: usize) -> bool
+#[tactic(auto, unfolding(crate::specs::Checks::foreign))]
+pub(crate) fn is_foreign(t: &[u8], of: Counts, r: usize) -> bool
     requires { CountsOf t.now of }
     ensures { result ≡ foreign t.now r }
 {
@@ -87,26 +89,12 @@ fn is_foreign(t: &[u8], of: Counts, r: usize) -> bool
 }
 
 // 8: a first or exit node that is not plain.
-fn is_not_plain(t: &[u8], of: Counts, r: usize) -> bool
+#[tactic(auto, unfolding(crate::specs::Checks::not_plain))]
+pub(crate) fn is_not_plain(t: &[u8], of: Counts, r: usize) -> bool
     requires { CountsOf t.now of }
     ensures { result ≡ not_plain t.now r }
 {
     let a = node_sort(t, of, field_a(t, r));
     let b = node_sort(t, of, field_b(t, r));
     (kind(t, r) == 1) & !((a == 0) & (b == 0))
-}
-
-// Whether the test passes at record r.
-pub(crate) fn passes(test: Test, t: &[u8], of: Counts, r: usize) -> bool
-    requires { CountsOf t.now of }
-    ensures { result ≡ test_of test t.now r }
-{
-    match test {
-        Test::Unlisted => is_unlisted(t, r),
-        Test::OutOfOrder => is_out_of_order(t, r),
-        Test::Entry => is_entry(t, r),
-        Test::Absent => is_absent(t, of, r),
-        Test::Foreign => is_foreign(t, of, r),
-        Test::NotPlain => is_not_plain(t, of, r),
-    }
 }

@@ -2,7 +2,7 @@
 ghost use Rattle.std.specs.Prelude.{◌≡◌, ◌<◌};
 ghost use Rattle.table.specs.Record.{byte_of, number_of, kind_of, sort_of, field_a, field_b, field_c};
 
-// Byte k of record r.
+// Byte k of record r. Past the table there is nothing to read.
 fn byte(t: &[u8], r: usize, k: usize) -> u8
     requires { k < 8 }
     ensures { result ≡ byte_of t.now r k }
@@ -10,14 +10,7 @@ fn byte(t: &[u8], r: usize, k: usize) -> u8
     if t.len() / 8 < r {
         return 0;
     }
-    let at = r * 8 + k;
-    if at < t.len() { t[at] } else { 0 }
-}
-
-fn wide(x: u8) -> usize
-    ensures { (result ≡ x) × (result < 256) }
-{
-    x as usize
+    t.get(r * 8 + k).copied().unwrap_or(0)
 }
 
 // The little-endian number at bytes k and k + 1 of record r.
@@ -25,38 +18,38 @@ fn number(t: &[u8], r: usize, k: usize) -> usize
     requires { k < 7 }
     ensures { (result ≡ number_of t.now r k) × (result < 65536) }
 {
-    // a whole record has both bytes
-    if r < t.len() / 8 {
-        let at = r * 8 + k;
-        return wide(t[at]) + 256 * wide(t[at + 1]);
-    }
-    wide(byte(t, r, k)) + 256 * wide(byte(t, r, k + 1))
+    usize::from(byte(t, r, k)) + 256 * usize::from(byte(t, r, k + 1))
 }
 
+#[tactic(auto, unfolding(crate::specs::Record::kind_of))]
 pub fn kind(t: &[u8], r: usize) -> u8
     ensures { result ≡ kind_of t.now r }
 {
     byte(t, r, 0)
 }
 
+#[tactic(auto, unfolding(crate::specs::Record::sort_of))]
 pub fn sort(t: &[u8], r: usize) -> u8
     ensures { result ≡ sort_of t.now r }
 {
     byte(t, r, 1)
 }
 
+#[tactic(auto, unfolding(crate::specs::Record::field_a))]
 pub fn field_a(t: &[u8], r: usize) -> usize
     ensures { (result ≡ field_a t.now r) × (result < 65536) }
 {
     number(t, r, 2)
 }
 
+#[tactic(auto, unfolding(crate::specs::Record::field_b))]
 pub fn field_b(t: &[u8], r: usize) -> usize
     ensures { (result ≡ field_b t.now r) × (result < 65536) }
 {
     number(t, r, 4)
 }
 
+#[tactic(auto, unfolding(crate::specs::Record::field_c))]
 pub fn field_c(t: &[u8], r: usize) -> usize
     ensures { (result ≡ field_c t.now r) × (result < 65536) }
 {

@@ -1,49 +1,43 @@
 // Passes over the records.
-ghost use Rattle.std.specs.Prelude.{◌≡◌, cond, ◌≤◌};
-ghost use Rattle.table.specs.Below.{count};
+ghost use Rattle.std.specs.Prelude.{◌≡◌, ◌≤◌};
+ghost use Rattle.table.specs.Below.{count, earliest};
 ghost use Rattle.table.specs.Record.{records};
 ghost use Rattle.table.specs.Checks.{too_many};
 ghost use Rattle.table.specs.Answer.{CountsOf};
-ghost use Rattle.table.specs.Scan.{First, test_of, of_kind, surplus_of};
+ghost use Rattle.table.specs.Scan.{FirstBy, of_kind, surplus_of};
 
-use crate::checks::passes;
+use crate::Counts;
 use crate::record::kind;
-use crate::{Counts, Test};
-
-fn one_if(b: bool) -> usize
-    ensures { (result ≡ cond b 1 0) × (result ≤ 1) }
-{
-    if b { 1 } else { 0 }
-}
 
 // How many of the first n records are of kind k.
+#[tactic(auto, using(crate::proofs::Below::count_none, crate::proofs::Below::count_more, crate::proofs::Below::count_le))]
 pub(crate) fn count_kind(t: &[u8], k: u8, n: usize) -> usize
     ensures { result ≡ count (of_kind t.now k) n }
 {
     let mut seen: usize = 0;
-    let mut i: usize = 0;
-    while i < n {
-        seen += one_if(kind(t, i) == k);
-        i += 1;
+    for r in 0..n {
+        if kind(t, r) == k {
+            seen += 1;
+        }
     }
     seen
 }
 
-// The first of n records that is one more of kind k than the limit, or n.
-pub(crate) fn first_surplus(t: &[u8], k: u8, limit: usize, n: usize) -> usize
-    ensures { First (surplus_of t.now k limit) n result }
+// The first of n records that is one more of kind k than the limit.
+#[tactic(auto, using(crate::proofs::Below::count_none, crate::proofs::Below::count_more, crate::proofs::Below::count_le, crate::proofs::Below::passed_more, crate::proofs::Below::earliest_some, crate::proofs::Below::earliest_none))]
+pub(crate) fn first_surplus(t: &[u8], k: u8, limit: usize, n: usize) -> Option<usize>
+    ensures { result ≡ earliest (surplus_of t.now k limit) n }
 {
     let mut seen: usize = 0;
-    let mut i: usize = 0;
-    while i < n {
-        let here = kind(t, i) == k;
-        if here & (limit <= seen) {
-            return i;
+    for r in 0..n {
+        if kind(t, r) == k {
+            if limit <= seen {
+                return Some(r);
+            }
+            seen += 1;
         }
-        seen += one_if(here);
-        i += 1;
     }
-    i
+    None
 }
 
 // How many of the n records are of each kind.
@@ -58,26 +52,25 @@ pub(crate) fn tally(t: &[u8], n: usize) -> Counts
     }
 }
 
-// 4: the first of n records that is one more of its kind than allowed, or n.
-pub(crate) fn first_too_many(t: &[u8], n: usize) -> usize
-    ensures { First (too_many t.now) n result }
+// 4: the first of n records that is one more of its kind than allowed.
+#[tactic(auto, using(crate::proofs::Below::earliest_either), unfolding(crate::specs::Checks::too_many))]
+pub(crate) fn first_too_many(t: &[u8], n: usize) -> Option<usize>
+    ensures { result ≡ earliest (too_many t.now) n }
 {
     let function = first_surplus(t, 1, 64, n);
-    let node = first_surplus(t, 2, 512, function);
-    first_surplus(t, 3, 1024, node)
+    let node = first_surplus(t, 2, 512, function.unwrap_or(n)).or(function);
+    first_surplus(t, 3, 1024, node.unwrap_or(n)).or(node)
 }
 
-// The first of n records at which the test passes, or n.
-pub(crate) fn first(test: Test, t: &[u8], of: Counts, n: usize) -> usize
-    requires { CountsOf t.now of }
-    ensures { First (test_of test t.now) n result }
+// The first of n records at which the test passes.
+pub(crate) fn first<F: Fn(usize) -> bool>(n: usize, test: F) -> Option<usize>
+    requires { F.IsAlwaysCallable test }
+    ensures { FirstBy (F.post test) n result }
 {
-    let mut i: usize = 0;
-    while i < n {
-        if passes(test, t, of, i) {
-            return i;
+    for r in 0..n {
+        if test(r) {
+            return Some(r);
         }
-        i += 1;
     }
-    i
+    None
 }

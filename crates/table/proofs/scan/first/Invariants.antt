@@ -1,11 +1,6 @@
--- The invariant: the test passes at none of the records before i.
-use Prim.Native.Nat.{◌-◌}
-use Rattle.table.specs.Scan.{test_of}
-use Rattle.table.proofs.Below.{Passed}
+use Prim.Native.Nat.{ℕ, ◌<◌}
+use mathlib.Core.Bool.{false}
 use Rattle.table.proofs.scan.first.Given as goal
 
-abbrev pub invariant-loop-i : goal.invariant-loop-i
-invariant-loop-i l = Passed (test_of l.test l.t) l.n l.i
-
-abbrev pub decreases-loop-i : goal.decreases-loop-i
-decreases-loop-i l = l.n - l.i
+abbrev pub invariant-loop-r : goal.invariant-loop-r
+invariant-loop-r g l = goal.F-IsAlwaysCallable g l.test × ((k : ℕ) → k < l.r → goal.F-post g l.test k false)

@@ -1,0 +1,40 @@
+// The fields of a function.
+ghost use Rattle.std.specs.Prelude.{◌≡◌, ◌<◌};
+ghost use Rattle.table.specs.Program.{program_of};
+
+use crate::Program;
+use table::record;
+
+impl Program<'_> {
+    // Whether function f is an entry.
+    pub fn is_entry(&self, f: usize) -> bool
+        requires { f < self.now.of.functions }
+        ensures { result ≡ (program_of self.now.table.now).entry f }
+    {
+        record::sort(self.table, f) == 1
+    }
+
+    // The first node of function f.
+    pub fn first(&self, f: usize) -> usize
+        requires { f < self.now.of.functions }
+        ensures { (result ≡ (program_of self.now.table.now).first f) × (result < self.now.of.nodes) }
+    {
+        record::field_a(self.table, f)
+    }
+
+    // The exit node of function f.
+    pub fn exit(&self, f: usize) -> usize
+        requires { f < self.now.of.functions }
+        ensures { (result ≡ (program_of self.now.table.now).exit f) × (result < self.now.of.nodes) }
+    {
+        record::field_b(self.table, f)
+    }
+
+    // The frame of function f, in bytes.
+    pub fn frame(&self, f: usize) -> usize
+        requires { f < self.now.of.functions }
+        ensures { (result ≡ (program_of self.now.table.now).frame f) × (result < 65536) }
+    {
+        record::field_c(self.table, f)
+    }
+}

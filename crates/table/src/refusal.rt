@@ -1,0 +1,47 @@
+// What a call is refused for.
+ghost use Rattle.std.specs.Prelude.{◌≡◌};
+ghost use Rattle.table.specs.Answer.{number_of};
+
+// The rows of "Refused tables" in their order: of the table itself down to `NotPlain`, and then of what is handed in beside it.
+#[derive(Clone, Copy, Debug, PartialEq, Eq)]
+pub enum Cause {
+    Length,
+    Unlisted,
+    OutOfOrder,
+    TooMany,
+    NoEntry,
+    Absent,
+    Foreign,
+    NotPlain,
+    Choice,
+    Verdicts,
+    Sizes,
+}
+
+// Its number is what a program in C is told.
+impl From<Cause> for u32 {
+    ghost from_gives = { λ cause number. number ≡ number_of cause };
+
+    fn from(cause: Cause) -> u32 {
+        match cause {
+            Cause::Length => 1,
+            Cause::Unlisted => 2,
+            Cause::OutOfOrder => 3,
+            Cause::TooMany => 4,
+            Cause::NoEntry => 5,
+            Cause::Absent => 6,
+            Cause::Foreign => 7,
+            Cause::NotPlain => 8,
+            Cause::Choice => 9,
+            Cause::Verdicts => 10,
+            Cause::Sizes => 11,
+        }
+    }
+}
+
+// "a numbered refusal with a place"
+#[derive(Clone, Copy, Debug, PartialEq, Eq)]
+pub struct Refused {
+    pub cause: Cause,
+    pub place: usize,
+}
