@@ -135,5 +135,5 @@ pub fn order_edges(t: &[u8], of: Counts, order: &mut [u16])
     ensures ordered { Ordered of.edges order.new }
 {
     search_all(t, of, order);
-    make_sure(order, of.edges);
+    make_sure(&mut order[..of.edges]);
 }

@@ -89,5 +89,5 @@ pub fn order_functions(t: &[u8], of: Counts, order: &mut [u16])
     ensures ordered { Ordered of.functions order.new }
 {
     search_all(t, of, order);
-    make_sure(order, of.functions);
+    make_sure(&mut order[..of.functions]);
 }
