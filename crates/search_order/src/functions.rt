@@ -7,6 +7,7 @@ ghost use Rattle.order.specs.Order.{Ordered};
 use order::sure::{make_sure, put};
 use table::Counts;
 
+// The bit of function f, and none past the 64 that a table may have.
 fn bit(f: usize) -> u64 {
     if f < 64 { 1u64 << f } else { 0 }
 }
