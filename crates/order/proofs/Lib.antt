@@ -1,2 +1,2 @@
 -- How the promises come about.
-mod Orders
+pub mod Orders

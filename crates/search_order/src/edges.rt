@@ -9,36 +9,49 @@ ghost use Rattle.order.specs.Order.{Ordered};
 use order::sure::{get, make_sure, put};
 use table::Counts;
 
-// Links the edges of each from-node, first to last: entry n of `links` is the first edge of node n, entry 512 + e the next one
-// after edge e. 65535 is none.
-fn link_edges(t: &[u8], of: Counts, links: &mut [u16])
-    requires { Ready t.now of }
-{
-    let mut e = of.edges;
-    while 0 < e {
-        e -= 1;
-        let p = program::edge_from(t, of, e);
-        let next = get(links, p);
-        put(links, 512 + e % 65536, next);
-        put(links, p, e);
+// The edges that a search has left: the first of each from-node, and the next after each edge.
+#[derive(Drop)]
+struct Links {
+    first: [Option<u16>; 512],
+    next: [Option<u16>; 1024],
+}
+
+impl Links {
+    // Makes edge e the first one of node n.
+    fn put(&mut self, n: usize, e: usize) {
+        if n < 512 && e < 1024 {
+            self.next[e] = self.first[n];
+            self.first[n] = Some(e as u16);
+        }
+    }
+
+    // Takes the first edge that is left of node n, if there is one.
+    fn take(&mut self, n: usize) -> Option<usize> {
+        let e = usize::from(self.first.get(n).copied()??);
+        self.first[n] = self.next.get(e).copied()?;
+        Some(e)
     }
 }
 
-// Takes the first edge that is left of node n, if there is one.
-fn take(links: &mut [u16], n: usize) -> usize {
-    let e = get(links, n);
-    if e < 1024 {
-        let next = get(links, 512 + e);
-        put(links, n, next);
+// All edges, each from-node's first to last.
+fn link_edges(t: &[u8], of: Counts) -> Links
+    requires { Ready t.now of }
+{
+    let mut links = Links {
+        first: [None; 512],
+        next: [None; 1024],
+    };
+    for e in (0..of.edges).rev() {
+        links.put(program::edge_from(t, of, e), e);
     }
-    e
+    links
 }
 
 // Goes from a node along edges that are left, and puts those on the way at the order's start; gives how many there are.
 fn descend(
     t: &[u8],
     of: Counts,
-    links: &mut [u16],
+    links: &mut Links,
     from: usize,
     way: usize,
     order: &mut [u16],
@@ -46,24 +59,24 @@ fn descend(
     requires { Ready t.now of }
 {
     let mut n = from;
-    let mut depth = way;
-    while depth < of.edges {
-        let e = take(links, n);
+    for depth in way..of.edges {
+        let Some(e) = links.take(n) else {
+            return depth;
+        };
         if of.edges <= e {
             return depth;
         }
         put(order, depth, e);
-        depth += 1;
         n = program::edge_to(t, of, e);
     }
-    depth
+    of.edges
 }
 
 // Puts the last edge on the way at its place, and goes on from where it comes from; gives how many are on the way then.
 fn retreat(
     t: &[u8],
     of: Counts,
-    links: &mut [u16],
+    links: &mut Links,
     way: usize,
     place: usize,
     order: &mut [u16],
@@ -80,52 +93,29 @@ fn retreat(
 
 // Searches from node n: an edge goes to its place on the way back, below those that were found beyond it. Gives the lowest
 // place taken. The edges on the way have none yet, so there is room for them below it.
-fn search(t: &[u8], of: Counts, links: &mut [u16], n: usize, end: usize, order: &mut [u16]) -> usize
+fn search(t: &[u8], of: Counts, links: &mut Links, n: usize, end: usize, order: &mut [u16]) -> usize
     requires { Ready t.now of }
 {
-    let mut place = end;
     let mut depth = descend(t, of, links, n, 0, order);
-    while 0 < place {
+    for place in (0..end).rev() {
         if depth == 0 {
-            return place;
+            return place + 1;
         }
-        place -= 1;
         depth = retreat(t, of, links, depth - 1, place, order);
     }
-    place
+    0
 }
 
-// The i-th node to search from: the functions' first nodes, and then every node.
-fn start(t: &[u8], of: Counts, i: usize) -> usize
-    requires { Ready t.now of }
-{
-    if i < of.functions {
-        program::first(t, of, i)
-    } else {
-        i - of.functions
-    }
-}
-
-// Searches from everywhere, and leaves no edge out.
-fn search_from_all(t: &[u8], of: Counts, links: &mut [u16], order: &mut [u16])
-    requires { Ready t.now of }
-{
-    let starts = of.functions + of.nodes;
-    let mut place = of.edges;
-    let mut i: usize = 0;
-    while i < starts {
-        let n = start(t, of, i);
-        place = search(t, of, links, n, place, order);
-        i += 1;
-    }
-}
-
+// Searches from everywhere, from the functions' first nodes and then from every node, and leaves no edge out.
 fn search_all(t: &[u8], of: Counts, order: &mut [u16])
     requires { Ready t.now of }
 {
-    let mut links = [65535u16; 1536];
-    link_edges(t, of, &mut links);
-    search_from_all(t, of, &mut links, order);
+    let mut links = link_edges(t, of);
+    let mut place = of.edges;
+    let starts = (0..of.functions).map(|f| program::first(t, of, f));
+    for n in starts.chain(0..of.nodes) {
+        place = search(t, of, &mut links, n, place, order);
+    }
 }
 
 // Writes the order that the search gives, made sure of.
@@ -135,5 +125,5 @@ pub fn order_edges(t: &[u8], of: Counts, order: &mut [u16])
     ensures ordered { Ordered of.edges order.new }
 {
     search_all(t, of, order);
-    make_sure(order, of.edges);
+    make_sure(&mut order[..of.edges]);
 }

@@ -7,12 +7,9 @@ ghost use Rattle.order.specs.Order.{Ordered};
 use order::sure::{make_sure, put};
 use table::Counts;
 
+// The bit of function f, and none past the 64 that a table may have.
 fn bit(f: usize) -> u64 {
     if f < 64 { 1u64 << f } else { 0 }
-}
-
-fn entry(a: &[u64], i: usize) -> u64 {
-    if i < a.len() { a[i] } else { 0 }
 }
 
 // The bit of the function that node n calls or spawns, if it does.
@@ -31,39 +28,28 @@ fn target_bit(t: &[u8], of: Counts, n: usize) -> u64
 fn find_targets(t: &[u8], of: Counts, targets: &mut [u64])
     requires { Ready t.now of }
 {
-    let mut n: usize = 0;
-    while n < of.nodes {
-        let f = program::owner(t, of, n);
-        let target = target_bit(t, of, n);
-        n += 1;
-        if f < targets.len() {
-            targets[f] = targets[f] | target;
+    for n in 0..of.nodes {
+        if let Some(own) = targets.get_mut(program::owner(t, of, n)) {
+            *own |= target_bit(t, of, n);
         }
     }
 }
 
-// The first function that is left, and so on if `ready` has no targets that are left.
-fn first_left(functions: usize, targets: &[u64], left: u64, ready: bool) -> usize {
-    let mut f: usize = 0;
-    while f < functions {
-        let own = bit(f);
-        let waits = ready & (entry(targets, f) & left & !own != 0);
-        if (left & own != 0) & !waits {
-            return f;
-        }
-        f += 1;
-    }
-    functions
+fn is_left(left: u64, f: usize) -> bool {
+    left & bit(f) != 0
+}
+
+// Whether another function is left that f calls or spawns.
+fn waits(targets: &[u64], left: u64, f: usize) -> bool {
+    let own = targets.get(f).copied().unwrap_or(0);
+    own & left & !bit(f) != 0
 }
 
 // The first function that is left and has no targets left, or else the first that is left.
-fn next_function(functions: usize, targets: &[u64], left: u64) -> usize {
-    let f = first_left(functions, targets, left, true);
-    if f < functions {
-        f
-    } else {
-        first_left(functions, targets, left, false)
-    }
+fn next_function(functions: usize, targets: &[u64], left: u64) -> Option<usize> {
+    (0..functions)
+        .find(|f| is_left(left, *f) && !waits(targets, left, *f))
+        .or_else(|| (0..functions).find(|f| is_left(left, *f)))
 }
 
 // Takes functions until none is left.
@@ -72,13 +58,12 @@ fn search_all(t: &[u8], of: Counts, order: &mut [u16])
 {
     let mut targets = [0u64; 64];
     find_targets(t, of, &mut targets);
-    let mut left: u64 = 18446744073709551615;
-    let mut q: usize = 0;
-    while q < of.functions {
-        let f = next_function(of.functions, &targets, left);
-        put(order, q, f);
-        left = left & !bit(f);
-        q += 1;
+    let mut left = u64::MAX;
+    for q in 0..of.functions {
+        if let Some(f) = next_function(of.functions, &targets, left) {
+            put(order, q, f);
+            left &= !bit(f);
+        }
     }
 }
 
@@ -89,5 +74,5 @@ pub fn order_functions(t: &[u8], of: Counts, order: &mut [u16])
     ensures ordered { Ordered of.functions order.new }
 {
     search_all(t, of, order);
-    make_sure(order, of.functions);
+    make_sure(&mut order[..of.functions]);
 }

@@ -1,19 +1,11 @@
-use native.Mathlib.Omega.{arith}
-use mathlib.Core.Path.{refl}
-use borrow.Author.Count.{below_more}
-use borrow.Author.Rules.{rules}
-use Rattle.table.proofs.Booleans.{not_both}
-use Rattle.order.proofs.Orders.{placed_ordered}
+use Rattle.std.proofs.Common.{length, arith, rules}
+use Rattle.std.proofs.lemmas.Iterator.{cases_from_all, YieldsList-from_range}
+use Rattle.order.specs.Order.{Placed}
+use Rattle.order.proofs.Orders.{all_placed_ordered}
 use Rattle.order.proofs.sure.is_order.Goals as goal
 
-pub loop-e-init : goal.loop-e-init
-loop-e-init c = (search rules, λ i h. absurd (omega arith))
-
-pub returns-then-not-is_placed : goal.returns-then-not-is_placed
-returns-then-not-is_placed c = λ h. not_both _ h refl
-
-pub loop-e-preserved : goal.loop-e-preserved
-loop-e-preserved c = (search rules, below_more _ _ c.loop-e.invariant.1 (c.is_placed.ensures c.if-not-is_placed.false))
-
 pub returns : goal.returns
-returns c = λ h. placed_ordered _ _ (λ e l. c.loop-e.invariant.1 e (omega arith))
+returns c =
+    let k = length c.args.order.now in
+    let found = cases_from_all _ _ _ (Placed k c.args.order.now) (λ e. Unit {0}) c.all.ensures.ran (YieldsList-from_range 0 k k (search rules) (omega arith)) (λ x q h. search rules) (λ x q h. tt) in
+    λ h. all_placed_ordered _ _ (rw h at found)
