@@ -3,11 +3,10 @@
 // were found beyond it: where no path comes back to its start, before all of them, so one sweep settles.
 // The search is a hint: nothing is promised of it, so no place needs a bound. What it writes is made sure of.
 ghost use Rattle.std.specs.Prelude.{◌≡◌, ◌≤◌, length};
-ghost use Rattle.table.specs.Answer.{Ready};
 ghost use Rattle.order.specs.Order.{Ordered};
 
 use order::sure::{get, make_sure, put};
-use table::Counts;
+use program::Program;
 
 // The edges that a search has left: the first of each from-node, and the next after each edge.
 #[derive(Drop)]
@@ -34,96 +33,91 @@ impl Links {
 }
 
 // All edges, each from-node's first to last.
-fn link_edges(t: &[u8], of: Counts) -> Links
-    requires { Ready t.now of }
-{
+fn link_edges(program: &Program<'_>) -> Links {
     let mut links = Links {
         first: [None; 512],
         next: [None; 1024],
     };
-    for e in (0..of.edges).rev() {
-        links.put(program::edge_from(t, of, e), e);
+    for e in (0..program.of.edges).rev() {
+        links.put(program.edge_from(e), e);
     }
     links
 }
 
 // Goes from a node along edges that are left, and puts those on the way at the order's start; gives how many there are.
 fn descend(
-    t: &[u8],
-    of: Counts,
+    program: &Program<'_>,
     links: &mut Links,
     from: usize,
     way: usize,
     order: &mut [u16],
-) -> usize
-    requires { Ready t.now of }
-{
+) -> usize {
     let mut n = from;
-    for depth in way..of.edges {
+    for depth in way..program.of.edges {
         let Some(e) = links.take(n) else {
             return depth;
         };
-        if of.edges <= e {
+        if program.of.edges <= e {
             return depth;
         }
         put(order, depth, e);
-        n = program::edge_to(t, of, e);
+        n = program.edge_to(e);
     }
-    of.edges
+    program.of.edges
 }
 
 // Puts the last edge on the way at its place, and goes on from where it comes from; gives how many are on the way then.
 fn retreat(
-    t: &[u8],
-    of: Counts,
+    program: &Program<'_>,
     links: &mut Links,
     way: usize,
     place: usize,
     order: &mut [u16],
-) -> usize
-    requires { Ready t.now of }
-{
+) -> usize {
     let e = get(order, way);
     put(order, place, e);
-    if of.edges <= e {
+    if program.of.edges <= e {
         return way;
     }
-    descend(t, of, links, program::edge_from(t, of, e), way, order)
+    descend(program, links, program.edge_from(e), way, order)
 }
 
 // Searches from node n: an edge goes to its place on the way back, below those that were found beyond it. Gives the lowest
 // place taken. The edges on the way have none yet, so there is room for them below it.
-fn search(t: &[u8], of: Counts, links: &mut Links, n: usize, end: usize, order: &mut [u16]) -> usize
-    requires { Ready t.now of }
-{
-    let mut depth = descend(t, of, links, n, 0, order);
+fn search(
+    program: &Program<'_>,
+    links: &mut Links,
+    n: usize,
+    end: usize,
+    order: &mut [u16],
+) -> usize {
+    let mut depth = descend(program, links, n, 0, order);
     for place in (0..end).rev() {
         if depth == 0 {
             return place + 1;
         }
-        depth = retreat(t, of, links, depth - 1, place, order);
+        depth = retreat(program, links, depth - 1, place, order);
     }
     0
 }
 
 // Searches from everywhere, from the functions' first nodes and then from every node, and leaves no edge out.
-fn search_all(t: &[u8], of: Counts, order: &mut [u16])
-    requires { Ready t.now of }
-{
-    let mut links = link_edges(t, of);
-    let mut place = of.edges;
-    let starts = (0..of.functions).map(|f| program::first(t, of, f));
-    for n in starts.chain(0..of.nodes) {
-        place = search(t, of, &mut links, n, place, order);
+fn search_all(program: &Program<'_>, order: &mut [u16]) {
+    let mut links = link_edges(program);
+    let mut place = program.of.edges;
+    let starts = (0..program.of.functions).map(|f| program.first(f));
+    for n in starts.chain(0..program.of.nodes) {
+        place = search(program, &mut links, n, place, order);
     }
 }
 
 // Writes the order that the search gives, made sure of.
-pub fn order_edges(t: &[u8], of: Counts, order: &mut [u16])
-    requires { Ready t.now of × (of.edges ≤ length order.old) }
+#[tactic(auto, using(order::proofs::Orders::front_ordered))]
+pub fn order_edges(program: &Program<'_>, order: &mut [u16])
+    requires { program.now.of.edges ≤ length order.old }
     ensures order_len_unchanged { length order.new ≡ length order.old }
-    ensures ordered { Ordered of.edges order.new }
+    ensures ordered { Ordered program.now.of.edges order.new }
 {
-    search_all(t, of, order);
-    make_sure(&mut order[..of.edges]);
+    search_all(program, order);
+    make_sure(&mut order[..program.of.edges]);
 }

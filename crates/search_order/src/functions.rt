@@ -1,11 +1,10 @@
 // An order of a table's functions in which each stands after those that it calls and spawns, where it can be.
 // The search is a hint: nothing is promised of it. What it writes is made sure of.
 ghost use Rattle.std.specs.Prelude.{◌≡◌, ◌<◌, ◌≤◌, length};
-ghost use Rattle.table.specs.Answer.{Ready};
 ghost use Rattle.order.specs.Order.{Ordered};
 
 use order::sure::{make_sure, put};
-use table::Counts;
+use program::Program;
 
 // The bit of function f, and none past the 64 that a table may have.
 fn bit(f: usize) -> u64 {
@@ -13,24 +12,21 @@ fn bit(f: usize) -> u64 {
 }
 
 // The bit of the function that node n calls or spawns, if it does.
-fn target_bit(t: &[u8], of: Counts, n: usize) -> u64
-    requires { Ready t.now of × (n < of.nodes) }
+fn target_bit(program: &Program<'_>, n: usize) -> u64
+    requires { n < program.now.of.nodes }
 {
-    let sort = program::sort(t, of, n);
-    if (sort == 1) | (sort == 2) {
-        bit(program::target_of(t, of, n))
+    if program.has_target(n) {
+        bit(program.target(n))
     } else {
         0
     }
 }
 
 // For each function those that it calls or spawns, one bit for each.
-fn find_targets(t: &[u8], of: Counts, targets: &mut [u64])
-    requires { Ready t.now of }
-{
-    for n in 0..of.nodes {
-        if let Some(own) = targets.get_mut(program::owner(t, of, n)) {
-            *own |= target_bit(t, of, n);
+fn find_targets(program: &Program<'_>, targets: &mut [u64]) {
+    for n in 0..program.of.nodes {
+        if let Some(own) = targets.get_mut(program.owner(n)) {
+            *own |= target_bit(program, n);
         }
     }
 }
@@ -53,14 +49,12 @@ fn next_function(functions: usize, targets: &[u64], left: u64) -> Option<usize> 
 }
 
 // Takes functions until none is left.
-fn search_all(t: &[u8], of: Counts, order: &mut [u16])
-    requires { Ready t.now of }
-{
+fn search_all(program: &Program<'_>, order: &mut [u16]) {
     let mut targets = [0u64; 64];
-    find_targets(t, of, &mut targets);
+    find_targets(program, &mut targets);
     let mut left = u64::MAX;
-    for q in 0..of.functions {
-        if let Some(f) = next_function(of.functions, &targets, left) {
+    for q in 0..program.of.functions {
+        if let Some(f) = next_function(program.of.functions, &targets, left) {
             put(order, q, f);
             left &= !bit(f);
         }
@@ -68,11 +62,12 @@ fn search_all(t: &[u8], of: Counts, order: &mut [u16])
 }
 
 // Writes the order that the search gives, made sure of.
-pub fn order_functions(t: &[u8], of: Counts, order: &mut [u16])
-    requires { Ready t.now of × (of.functions ≤ length order.old) }
+#[tactic(auto, using(order::proofs::Orders::front_ordered))]
+pub fn order_functions(program: &Program<'_>, order: &mut [u16])
+    requires { program.now.of.functions ≤ length order.old }
     ensures order_len_unchanged { length order.new ≡ length order.old }
-    ensures ordered { Ordered of.functions order.new }
+    ensures ordered { Ordered program.now.of.functions order.new }
 {
-    search_all(t, of, order);
-    make_sure(&mut order[..of.functions]);
+    search_all(program, order);
+    make_sure(&mut order[..program.of.functions]);
 }
