@@ -1,2 +1,1 @@
 -- How the promises come about.
-mod Ends

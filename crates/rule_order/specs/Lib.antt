@@ -1,3 +1,3 @@
 -- What only helps proofs.
-pub mod Orders
+pub mod AllOrdered
 pub mod Ends
