@@ -7,128 +7,160 @@ use mathlib.Core.Logic.{◌⊎◌, inl, inr, ⊎_elim}
 use native.Mathlib.Omega.{arith}
 use native.Mathlib.Numerals.{add-one}
 use native.Mathlib.Decide.{ℕ_discrete, dec_le}
-use lib.Dec.{eqb}
-use lib.ListN.{length, set, length-set}
+use lib.ListN.{length, set, replicate, length-set}
 use lib.Seq.{get_or-set_same, get_or-set_other}
 use borrow.Author.Count.{below_more}
-use borrow.Author.Tests.{eq-eqb, ne_eqb, eqb-true}
+use borrow.Author.Tests.{eq-eqb, eqb-true}
+use Rattle.std.specs.Prelude.{Option, None, Some}
+use Rattle.std.specs.Option.{is_none, unwrap_or}
 use Rattle.table.specs.Record.{has_target}
 use Rattle.table.specs.Program.{Program}
 use Rattle.table.specs.WellFormed.{WellFormed}
 use Rattle.table.proofs.Booleans.{either_way, not_both, and_true_left, and_true_right}
 use Rattle.table.proofs.Below.{count_le, count_strict}
-use Rattle.size.specs.Numbers.{at}
 use Rattle.preference.specs.Depth.{Away, Fewest, DepthOf}
-use Rattle.preference.specs.Levels.{no_depth, Levels, unfound, leads_down, Deepened, Sounded}
+use Rattle.preference.specs.Levels.{found_in, Levels, unfound, is_level, leads_down, Deepened, Sounded}
+
+-- a function has a depth or none
+known : (o : Option ℕ) → (o ≡ None) ⊎ ((d : ℕ) × (o ≡ Some d))
+known None = inl refl
+known (Some d) = inr (d, refl)
+
+-- what the two tests of a depth say
+level_told : (level : ℕ) (o : Option ℕ) → is_level level o ≡ true → o ≡ Some level
+level_told level None h = cc
+level_told level (Some d) h = ap Some (eqb-true d level h)
+
+none_told : (o : Option ℕ) → is_none o ≡ true → o ≡ None
+none_told None h = refl
+none_told (Some d) h = cc
 
 -- ---- the entries
 
--- what a function has at first
-abbrev pub start_depth : Program → ℕ → ℕ
-start_depth g f = cond (g.entry f) 0 no_depth
+-- the entries among the functions below f have depth 0, and no others have one
+pub record Started (g : Program) (f : ℕ) (l : List (Option ℕ)) : Type 0 where
+  pub long : length l ≡ 64
+  pub below : (k : ℕ) → k < f → found_in l k ≡ cond (g.entry k) (Some 0) None
+  pub rest : (k : ℕ) → f ≤ k → found_in l k ≡ None
 
--- one function more has got its number
-pub started_more : (g : Program) (l new : List ℕ) (f : ℕ) (entry : Bool) → f < length l → ((k : ℕ) → k < f → at l k ≡ start_depth g k) → entry ≡ g.entry f → new ≡ set l f (cond entry 0 no_depth) → (length new ≡ length l) × ((k : ℕ) → k < f + 1 → at new k ≡ start_depth g k)
-started_more g l new f entry h below v e = rw (e, v) (
-  length-set l f (start_depth g f),
-  below_more (λ k. at (set l f (start_depth g f)) k ≡ start_depth g k) f
-      (λ k b. get_or-set_other l f k (start_depth g f) 0 (λ q. absurd (omega arith)) ∙ below k b)
-      (get_or-set_same l f (start_depth g f) 0 h),
-)
+pub started_none : (g : Program) → Started g 0 (replicate 64 None)
+started_none g = record { long = refl; below = λ k h. absurd (omega arith); rest = λ k h. go 64 k }
+  where
+    go : (n k : ℕ) → found_in (replicate n None) k ≡ None
+    go zero k = refl
+    go (suc n) zero = refl
+    go (suc n) (suc k) = go n k
+
+module _ (g : Program) (f : ℕ) (l : List (Option ℕ)) (s : Started g f l) where
+  pub started_entry : f < 64 → g.entry f ≡ true → Started g (f + 1) (set l f (Some 0))
+  started_entry h e = record {
+    long = length-set l f (Some 0) ∙ s.long;
+    below = below_more (λ k. found_in (set l f (Some 0)) k ≡ cond (g.entry k) (Some 0) None) f
+        (λ k b. get_or-set_other l f k (Some 0) None (λ q. absurd (omega arith)) ∙ s.below k b)
+        (rw e (get_or-set_same l f (Some 0) None (omega (arith, s.long))));
+    rest = λ k b. get_or-set_other l f k (Some 0) None (λ q. absurd (omega arith)) ∙ s.rest k (omega arith);
+  }
+
+  pub started_pass : g.entry f ≡ false → Started g (f + 1) l
+  started_pass e = record {
+    long = s.long;
+    below = below_more (λ k. found_in l k ≡ cond (g.entry k) (Some 0) None) f s.below (rw e (s.rest f (omega arith)));
+    rest = λ k b. s.rest k (omega arith);
+  }
 
 -- the entries are level 0
-levels_start : (g : Program) (depth : ℕ → ℕ) → ((f : ℕ) → f < g.functions → depth f ≡ start_depth g f) → Levels g 0 depth
-levels_start g depth p = record { found = λ f h. go f h (either_way (g.entry f)); complete = none }
+pub levels_start : (g : Program) (depth : ℕ → Option ℕ) → ((f : ℕ) → f < g.functions → depth f ≡ cond (g.entry f) (Some 0) None) → Levels g 0 depth
+levels_start g depth p = record { found = λ f d h e. go f d h (either_way (g.entry f)) e; complete = first }
   where
-    go : (f : ℕ) → f < g.functions → (g.entry f ≡ true) ⊎ (g.entry f ≡ false) → (depth f ≡ no_depth) ⊎ ((depth f ≤ 0) × Away g f (depth f))
-    go f h (inl e) =
-        let z : depth f ≡ 0 = rw e at (p f h) in
-        inr (omega arith, subst (λ (k : ℕ). Away g f k) (sym z) e)
-    go f h (inr e) = inl (rw e at (p f h))
+    go : (f d : ℕ) → f < g.functions → (g.entry f ≡ true) ⊎ (g.entry f ≡ false) → depth f ≡ Some d → (d ≤ 0) × Away g f d
+    go f d h (inl e) q =
+        let z : depth f ≡ Some 0 = rw e at (p f h) in
+        let s : d ≡ 0 = cc in
+        (omega arith, subst (λ (k : ℕ). Away g f k) (sym s) e)
+    go f d h (inr e) q = let z : depth f ≡ None = rw e at (p f h) in absurd (cc)
 
-    none : (f k : ℕ) → f < g.functions → k ≤ 0 → Away g f k → depth f ≤ k
-    none f zero h l a = let z : depth f ≡ 0 = rw a at (p f h) in omega arith
-    none f (suc k) h l a = absurd (omega arith)
+    first : (f k : ℕ) → f < g.functions → k ≤ 0 → Away g f k → (d : ℕ) × (depth f ≡ Some d) × (d ≤ k)
+    first f zero h l a = (0, rw a at (p f h), omega arith)
+    first f (suc k) h l a = absurd (omega arith)
 
 -- ---- one level more
 
-module _ (g : Program) (level : ℕ) (old : ℕ → ℕ) (few : level ≤ 64) (p : Levels g level old) (formed : WellFormed g) where
-  -- a depth up to the level is one of a function that an entry reaches
-  reaches : (f : ℕ) → f < g.functions → old f ≤ level → Away g f (old f)
-  reaches f h l =
-      ⊎_elim
-      (λ (e : old f ≡ no_depth). absurd (omega arith))
-      (λ (w : (old f ≤ level) × Away g f (old f)). w.1)
-      (p.found f h)
-
-  module _ (new : ℕ → ℕ) (grew : Bool) (d : Deepened g level g.nodes old new grew) where
+module _ (g : Program) (level : ℕ) (old : ℕ → Option ℕ) (p : Levels g level old) (formed : WellFormed g) where
+  module _ (new : ℕ → Option ℕ) (grew : Bool) (d : Deepened g level g.nodes old new grew) where
     -- a new depth is one more than the level
-    new_found : (f : ℕ) → f < g.functions → (new f ≡ no_depth) ⊎ ((new f ≤ level + 1) × Away g f (new f))
-    new_found f h = go (d.moved f h) (p.found f h)
+    new_found : (f k : ℕ) → f < g.functions → new f ≡ Some k → (k ≤ level + 1) × Away g f k
+    new_found f k h q = go (d.moved f h)
       where
-        go : (new f ≡ old f) ⊎ ((old f ≡ no_depth) × (new f ≡ level + 1) × Away g f (suc level)) → (old f ≡ no_depth) ⊎ ((old f ≤ level) × Away g f (old f)) → (new f ≡ no_depth) ⊎ ((new f ≤ level + 1) × Away g f (new f))
-        go (inl e) (inl n) = inl (e ∙ n)
-        go (inl e) (inr w) = inr (omega (arith, w.0), subst (λ (k : ℕ). Away g f k) (sym e) w.1)
-        go (inr m) q = inr (omega (arith, m.1), subst (λ (k : ℕ). Away g f k) (sym (m.1 ∙ add-one level)) m.2)
+        go : (new f ≡ old f) ⊎ ((old f ≡ None) × (new f ≡ Some (level + 1)) × Away g f (suc level)) → (k ≤ level + 1) × Away g f k
+        go (inl e) = let w = p.found f k h (sym e ∙ q) in (omega (arith, w.0), w.1)
+        go (inr m) =
+            let s : k ≡ level + 1 = cc (m.1) in
+            (omega arith, subst (λ (j : ℕ). Away g f j) (sym (s ∙ add-one level)) m.2)
 
     -- what was found stands
-    stands : (f k : ℕ) → f < g.functions → k ≤ level → Away g f k → new f ≤ k
-    stands f k h l a =
-        ⊎_elim
-        (λ (e : new f ≡ old f). omega (arith, p.complete f k h l a))
-        (λ (m : (old f ≡ no_depth) × (new f ≡ level + 1) × Away g f (suc level)). absurd (omega (arith, m.0, p.complete f k h l a)))
-        (d.moved f h)
+    stands : (f k : ℕ) → f < g.functions → k ≤ level → Away g f k → (j : ℕ) × (new f ≡ Some j) × (j ≤ k)
+    stands f k h l a = go (d.moved f h) (p.complete f k h l a)
+      where
+        go : (new f ≡ old f) ⊎ ((old f ≡ None) × (new f ≡ Some (level + 1)) × Away g f (suc level)) → (j : ℕ) × (old f ≡ Some j) × (j ≤ k) → (j : ℕ) × (new f ≡ Some j) × (j ≤ k)
+        go (inl e) (j, q, b) = (j, e ∙ q, b)
+        go (inr (z, e, b)) (j, q, c) = absurd (cc)
 
     -- a call or spawn from a function that had a depth leads to one that has a depth
-    led : (n : ℕ) → n < g.nodes → has_target (g.sort n) ≡ true → old (g.owner n) ≤ level → new (g.target n) ≡ no_depth → ⊥
-    led n h s l e = go (ℕ_discrete (old (g.owner n)) level)
+    led : (n k : ℕ) → n < g.nodes → has_target (g.sort n) ≡ true → old (g.owner n) ≡ Some k → new (g.target n) ≡ None → ⊥
+    led n k h s e z = go (ℕ_discrete k level)
       where
-        go : Dec (old (g.owner n) ≡ level) → ⊥
-        go (yes q) = d.passed n h s q e
-        go (no q) =
-            let a : Away g (g.target n) (suc (old (g.owner n))) = (n, h, s, refl, reaches (g.owner n) (formed.owner_exists n h) l) in
-            omega (arith, stands (g.target n) (suc (old (g.owner n))) (formed.target_exists n h) (omega (arith, q)) a)
+        from : (k ≤ level) × Away g (g.owner n) k
+        from = p.found (g.owner n) k (formed.owner_exists n h) e
 
-    levels_next : Levels g (level + 1) new
+        go : Dec (k ≡ level) → ⊥
+        go (yes q) = d.passed n h s (e ∙ ap Some q) z
+        go (no q) =
+            let w = stands (g.target n) (suc k) (formed.target_exists n h) (omega (arith, from.0, q)) (n, h, s, refl, from.1) in
+            cc (w.1, z)
+
+    pub levels_next : Levels g (level + 1) new
     levels_next = record { found = new_found; complete = λ f k h l a. go f k h l a (dec_le k level) }
       where
-        last : (f k : ℕ) → f < g.functions → k ≡ suc level → Away g f (suc level) → new f ≤ k
+        last : (f k : ℕ) → f < g.functions → k ≡ suc level → Away g f (suc level) → (j : ℕ) × (new f ≡ Some j) × (j ≤ k)
         last f k h e (n, b, s, t, a) =
+            let w = p.complete (g.owner n) level (formed.owner_exists n b) (omega arith) a in
             ⊎_elim
-            (λ (z : new f ≡ no_depth). absurd (led n b s (p.complete (g.owner n) level (formed.owner_exists n b) (omega arith) a) (ap new t ∙ z)))
-            (λ (w : (new f ≤ level + 1) × Away g f (new f)). omega (arith, w.0))
-            (new_found f h)
+            (λ (z : new f ≡ None). absurd (led n w.0 b s w.1 (ap new t ∙ z)))
+            (λ (v : (j : ℕ) × (new f ≡ Some j)). (v.0, v.1, omega (arith, (new_found f v.0 h v.1).0)))
+            (known (new f))
 
-        go : (f k : ℕ) → f < g.functions → k ≤ level + 1 → Away g f k → Dec (k ≤ level) → new f ≤ k
+        go : (f k : ℕ) → f < g.functions → k ≤ level + 1 → Away g f k → Dec (k ≤ level) → (j : ℕ) × (new f ≡ Some j) × (j ≤ k)
         go f k h l a (yes q) = stands f k h q a
         go f k h l a (no q) =
             let e : k ≡ suc level = omega (arith, q) in
             last f k h e (subst (λ (j : ℕ). Away g f j) e a)
 
     -- a level that leads to no other function is the last
-    levels_done : grew ≡ false → Sounded g new
-    levels_done quiet = record { unreached = λ f h e k a. has_depth f k h a e; reached = λ f h n. least f h n (new_found f h) }
+    pub levels_done : grew ≡ false → Sounded g new
+    levels_done quiet = record { unreached = λ f h e k a. has_depth f k h a e; reached = least }
       where
-        has_depth : (f k : ℕ) → f < g.functions → Away g f k → new f ≡ no_depth → ⊥
-        has_depth f zero h a e = omega (arith, levels_next.complete f 0 h (omega arith) a)
+        has_depth : (f k : ℕ) → f < g.functions → Away g f k → new f ≡ None → ⊥
+        has_depth f zero h a e = let w = levels_next.complete f 0 h (omega arith) a in cc (w.1, e)
         has_depth f (suc k) h (n, b, s, t, a) e =
             let o = formed.owner_exists n b in
             ⊎_elim
-            (λ (z : old (g.owner n) ≡ no_depth). has_depth (g.owner n) k o a (d.quiet quiet (g.owner n) o ∙ z))
-            (λ (w : (old (g.owner n) ≤ level) × Away g (g.owner n) (old (g.owner n))). led n b s w.0 (ap new t ∙ e))
-            (p.found (g.owner n) o)
+            (λ (z : old (g.owner n) ≡ None). has_depth (g.owner n) k o a (d.quiet quiet (g.owner n) o ∙ z))
+            (λ (v : (j : ℕ) × (old (g.owner n) ≡ Some j)). led n v.0 b s v.1 (ap new t ∙ e))
+            (known (old (g.owner n)))
 
-        least : (f : ℕ) → f < g.functions → (new f ≡ no_depth → ⊥) → (new f ≡ no_depth) ⊎ ((new f ≤ level + 1) × Away g f (new f)) → Fewest g f (new f)
-        least f h n (inl e) = absurd (n e)
-        least f h n (inr w) = record { reached = w.1; fewest = λ k a. within k a (dec_le k (level + 1)) }
+        least : (f j : ℕ) → f < g.functions → new f ≡ Some j → Fewest g f j
+        least f j h e = record { reached = (new_found f j h e).1; fewest = λ k a. within k a (dec_le k (level + 1)) }
           where
-            within : (k : ℕ) → Away g f k → Dec (k ≤ level + 1) → new f ≤ k
-            within k a (yes l) = levels_next.complete f k h l a
-            within k a (no l) = omega (arith, w.0, l)
+            within : (k : ℕ) → Away g f k → Dec (k ≤ level + 1) → j ≤ k
+            within k a (yes l) =
+                let w = levels_next.complete f k h l a in
+                let s : j ≡ w.0 = cc (w.1, e) in
+                omega (arith, w.2)
+            within k a (no l) = omega (arith, (new_found f j h e).0, l)
 
 -- ---- the nodes one after another
 
-pub deepened_none : (g : Program) (level : ℕ) (depth : ℕ → ℕ) → Deepened g level 0 depth depth false
+pub deepened_none : (g : Program) (level : ℕ) (depth : ℕ → Option ℕ) → Deepened g level 0 depth depth false
 deepened_none g level depth = record {
   moved = λ f h. inl refl;
   passed = λ m h. absurd (omega arith);
@@ -136,154 +168,117 @@ deepened_none g level depth = record {
   falls = omega arith;
 }
 
-module _ (g : Program) (level n : ℕ) (old : ℕ → ℕ) (few : level ≤ 64) (p : Levels g level old) (formed : WellFormed g) (exists : n < g.nodes) (l : List ℕ) (grew : Bool) (d : Deepened g level n old (at l) grew) (leads : Bool) (tells : leads ≡ leads_down g level (at l) n) where
+module _ (g : Program) (level n : ℕ) (old : ℕ → Option ℕ) (p : Levels g level old) (formed : WellFormed g) (exists : n < g.nodes) (l : List (Option ℕ)) (grew : Bool) (d : Deepened g level n old (found_in l) grew) where
   -- the functions of the level are those that they were
-  level_was : (f : ℕ) → f < g.functions → at l f ≡ level → old f ≡ level
-  level_was f h e =
-      ⊎_elim
-      (λ (s : at l f ≡ old f). sym s ∙ e)
-      (λ (m : (old f ≡ no_depth) × (at l f ≡ level + 1) × Away g f (suc level)). absurd (omega (arith, m.1)))
-      (d.moved f h)
+  level_was : (f : ℕ) → f < g.functions → found_in l f ≡ Some level → old f ≡ Some level
+  level_was f h e = go (d.moved f h)
+    where
+      go : (found_in l f ≡ old f) ⊎ ((old f ≡ None) × (found_in l f ≡ Some (level + 1)) × Away g f (suc level)) → old f ≡ Some level
+      go (inl s) = sym s ∙ e
+      go (inr m) = let s : level ≡ level + 1 = cc (m.1, e) in absurd (omega arith)
 
-  level_is : (f : ℕ) → f < g.functions → old f ≡ level → at l f ≡ level
-  level_is f h e =
-      ⊎_elim
-      (λ (s : at l f ≡ old f). s ∙ e)
-      (λ (m : (old f ≡ no_depth) × (at l f ≡ level + 1) × Away g f (suc level)). absurd (omega (arith, m.0)))
-      (d.moved f h)
+  level_is : (f : ℕ) → f < g.functions → old f ≡ Some level → found_in l f ≡ Some level
+  level_is f h e = go (d.moved f h)
+    where
+      go : (found_in l f ≡ old f) ⊎ ((old f ≡ None) × (found_in l f ≡ Some (level + 1)) × Away g f (suc level)) → found_in l f ≡ Some level
+      go (inl s) = s ∙ e
+      go (inr m) = absurd (cc (m.0, e))
 
   -- node n leads to no function that has no depth yet
-  pub deepened_pass : leads ≡ false → Deepened g level (n + 1) old (at l) grew
+  pub deepened_pass : leads_down g level (found_in l) n ≡ false → Deepened g level (n + 1) old (found_in l) grew
   deepened_pass h = record {
     moved = d.moved;
-    passed = below_more (λ m. has_target (g.sort m) ≡ true → old (g.owner m) ≡ level → at l (g.target m) ≡ no_depth → ⊥) n d.passed here;
+    passed = below_more (λ m. has_target (g.sort m) ≡ true → old (g.owner m) ≡ Some level → found_in l (g.target m) ≡ None → ⊥) n d.passed here;
     quiet = d.quiet;
     falls = d.falls;
   }
     where
-      here : has_target (g.sort n) ≡ true → old (g.owner n) ≡ level → at l (g.target n) ≡ no_depth → ⊥
+      here : has_target (g.sort n) ≡ true → old (g.owner n) ≡ Some level → found_in l (g.target n) ≡ None → ⊥
       here s o e =
-          not_both (leads_down g level (at l) n)
-          (rw (s, eq-eqb _ _ (level_is (g.owner n) (formed.owner_exists n exists) o), eq-eqb _ _ e) refl)
-          (sym tells ∙ h)
+          not_both (leads_down g level (found_in l) n)
+          (rw (s, level_is (g.owner n) (formed.owner_exists n exists) o, e, eq-eqb level level refl) refl)
+          h
 
   -- or it does, and its target gets the next level
-  module _ (long : g.functions ≤ length l) (h : leads ≡ true) where
-    from_level : (has_target (g.sort n) && eqb (at l (g.owner n)) level) ≡ true
-    from_level = and_true_left _ (eqb (at l (g.target n)) no_depth) (sym tells ∙ h)
+  module _ (long : g.functions ≤ length l) (h : leads_down g level (found_in l) n ≡ true) where
+    from_level : (has_target (g.sort n) && is_level level (found_in l (g.owner n))) ≡ true
+    from_level = and_true_left _ (is_none (found_in l (g.target n))) h
 
-    had_none : at l (g.target n) ≡ no_depth
-    had_none = eqb-true _ _ (and_true_right (has_target (g.sort n) && eqb (at l (g.owner n)) level) _ (sym tells ∙ h))
+    had_none : found_in l (g.target n) ≡ None
+    had_none = none_told _ (and_true_right (has_target (g.sort n) && is_level level (found_in l (g.owner n))) _ h)
 
     reached_next : Away g (g.target n) (suc level)
     reached_next =
         let o = formed.owner_exists n exists in
-        let e : old (g.owner n) ≡ level = level_was (g.owner n) o (eqb-true _ _ (and_true_right (has_target (g.sort n)) _ from_level)) in
-        let a = reaches g level old few p formed (g.owner n) o (omega arith) in
-        (n, exists, and_true_left (has_target (g.sort n)) _ from_level, refl, subst (λ (k : ℕ). Away g (g.owner n) k) e a)
+        let e = level_was (g.owner n) o (level_told level _ (and_true_right (has_target (g.sort n)) _ from_level)) in
+        (n, exists, and_true_left (has_target (g.sort n)) _ from_level, refl, (p.found (g.owner n) level o e).1)
 
-    abbrev new : List ℕ
-    new = set l (g.target n) (level + 1)
+    abbrev new : List (Option ℕ)
+    new = set l (g.target n) (Some (level + 1))
 
-    new_at : at new (g.target n) ≡ level + 1
-    new_at = get_or-set_same l (g.target n) (level + 1) 0 (omega (arith, formed.target_exists n exists))
+    new_at : found_in new (g.target n) ≡ Some (level + 1)
+    new_at = get_or-set_same l (g.target n) (Some (level + 1)) None (omega (arith, formed.target_exists n exists))
 
     -- who has no depth now had none
-    still_none : (f : ℕ) → at new f ≡ no_depth → at l f ≡ no_depth
+    still_none : (f : ℕ) → found_in new f ≡ None → found_in l f ≡ None
     still_none f e = go (ℕ_discrete f (g.target n))
       where
-        go : Dec (f ≡ g.target n) → at l f ≡ no_depth
+        go : Dec (f ≡ g.target n) → found_in l f ≡ None
         go (yes q) = rw q had_none
-        go (no q) = sym (get_or-set_other l (g.target n) f (level + 1) 0 q) ∙ e
+        go (no q) = sym (get_or-set_other l (g.target n) f (Some (level + 1)) None q) ∙ e
 
-    pub deepened_more : Deepened g level (n + 1) old (at new) true
+    pub deepened_more : Deepened g level (n + 1) old (found_in new) true
     deepened_more = record {
       moved = λ f b. go f b (ℕ_discrete f (g.target n));
-      passed = below_more (λ m. has_target (g.sort m) ≡ true → old (g.owner m) ≡ level → at new (g.target m) ≡ no_depth → ⊥) n
+      passed = below_more (λ m. has_target (g.sort m) ≡ true → old (g.owner m) ≡ Some level → found_in new (g.target m) ≡ None → ⊥) n
           (λ m b s o e. d.passed m b s o (still_none (g.target m) e))
-          (λ s o e. omega (arith, new_at));
+          (λ s o e. cc (new_at, e));
       quiet = λ q. not_both true refl q;
       falls = omega (arith, fewer, d.falls);
     }
       where
-        Moved : (ℕ → ℕ) → ℕ → Type 0
-        Moved now f = (now f ≡ old f) ⊎ ((old f ≡ no_depth) × (now f ≡ level + 1) × Away g f (suc level))
+        Moved : (ℕ → Option ℕ) → ℕ → Type 0
+        Moved now f = (now f ≡ old f) ⊎ ((old f ≡ None) × (now f ≡ Some (level + 1)) × Away g f (suc level))
 
-        had : (f : ℕ) → at l f ≡ no_depth → Moved (at l) f → old f ≡ no_depth
+        had : (f : ℕ) → found_in l f ≡ None → Moved (found_in l) f → old f ≡ None
         had f e (inl s) = sym s ∙ e
         had f e (inr m) = m.0
 
-        go : (f : ℕ) → f < g.functions → Dec (f ≡ g.target n) → Moved (at new) f
+        go : (f : ℕ) → f < g.functions → Dec (f ≡ g.target n) → Moved (found_in new) f
         go f b (yes q) = rw q (inr (had (g.target n) had_none (d.moved (g.target n) (formed.target_exists n exists)), new_at, reached_next))
-        go f b (no q) = rw (get_or-set_other l (g.target n) f (level + 1) 0 q) (d.moved f b)
+        go f b (no q) = rw (get_or-set_other l (g.target n) f (Some (level + 1)) None q) (d.moved f b)
 
-        fewer : unfound g (at new) < unfound g (at l)
+        fewer : unfound g (found_in new) < unfound g (found_in l)
         fewer =
-            count_strict (λ f. eqb (at new f) no_depth) (λ f. eqb (at l f) no_depth) g.functions (g.target n) (formed.target_exists n exists)
-            (λ f e. eq-eqb _ _ (still_none f (eqb-true _ _ e)))
-            (ne_eqb _ _ (λ (e : at new (g.target n) ≡ no_depth). omega (arith, new_at)))
-            (eq-eqb _ _ had_none)
+            count_strict (λ f. is_none (found_in new f)) (λ f. is_none (found_in l f)) g.functions (g.target n) (formed.target_exists n exists)
+            (λ f e. ap is_none (still_none f (none_told _ e)))
+            (ap is_none new_at)
+            (ap is_none had_none)
 
 -- ---- level after level
 
--- Where the search stands: it goes on from a level, or all is found.
-pub record Sounding (g : Program) (level : ℕ) (depth : ℕ → ℕ) (grew : Bool) : Type 0 where
-  pub levels_are : grew ≡ true → Levels g level depth
-  -- each level but the last takes at least one function
-  pub few : grew ≡ true → level + unfound g depth ≤ 64
-  pub done : grew ≡ false → Sounded g depth
+-- Where the search stands: it goes on from a level, and each level but the last has taken at least one function.
+pub record Sounding (g : Program) (level : ℕ) (depth : ℕ → Option ℕ) : Type 0 where
+  pub levels_are : Levels g level depth
+  pub few : level + unfound g depth ≤ 64
 
-pub sounding_first : (g : Program) (depth : ℕ → ℕ) → WellFormed g → ((f : ℕ) → f < g.functions → depth f ≡ start_depth g f) → Sounding g 0 depth true
+pub sounding_first : (g : Program) (depth : ℕ → Option ℕ) → WellFormed g → ((f : ℕ) → f < g.functions → depth f ≡ cond (g.entry f) (Some 0) None) → Sounding g 0 depth
 sounding_first g depth formed p = record {
-  levels_are = λ e. levels_start g depth p;
-  few = λ e. omega (arith, formed.few_functions, count_le (λ f. eqb (depth f) no_depth) g.functions);
-  done = λ e. not_both true refl e;
+  levels_are = levels_start g depth p;
+  few = omega (arith, formed.few_functions, count_le (λ f. is_none (depth f)) g.functions);
 }
 
-pub sounding_next : (g : Program) (level : ℕ) (old new : ℕ → ℕ) (grew : Bool) → WellFormed g → Sounding g level old true → Deepened g level g.nodes old new grew → Sounding g (level + 1) new grew
-sounding_next g level old new grew formed p d = record {
-  levels_are = λ e. levels_next g level old small (p.levels_are refl) formed new grew d;
-  few = λ e. omega (arith, p.few refl, rw e at d.falls);
-  done = λ e. levels_done g level old small (p.levels_are refl) formed new grew d e;
+pub sounding_next : (g : Program) (level : ℕ) (old new : ℕ → Option ℕ) → WellFormed g → Sounding g level old → Deepened g level g.nodes old new true → Sounding g (level + 1) new
+sounding_next g level old new formed p d = record {
+  levels_are = levels_next g level old p.levels_are formed new true d;
+  few = omega (arith, p.few, d.falls);
 }
-  where
-    small : level ≤ 64
-    small = omega (arith, p.few refl)
 
 -- ---- 0 where no entry reaches
 
--- the functions below f have their depths, and the others what was found of them
-pub record Settled (g : Program) (f : ℕ) (old new : List ℕ) : Type 0 where
-  pub long : length new ≡ length old
-  pub below : (k : ℕ) → k < f → DepthOf g k (at new k)
-  pub rest : (k : ℕ) → f ≤ k → at new k ≡ at old k
-
-pub settled_none : (g : Program) (old : List ℕ) → Settled g 0 old old
-settled_none g old = record { long = refl; below = λ k h. absurd (omega arith); rest = λ k h. refl }
-
-module _ (g : Program) (f : ℕ) (old l : List ℕ) (p : Sounded g (at old)) (exists : f < g.functions) (s : Settled g f old l) where
-  -- function f has no depth and gets 0, or it keeps its own
-  pub settled_zero : f < length l → at l f ≡ no_depth → Settled g (f + 1) old (set l f 0)
-  settled_zero h e = record {
-    long = length-set l f 0 ∙ s.long;
-    below = below_more (λ k. DepthOf g k (at (set l f 0) k)) f
-        (λ k b. rw (get_or-set_other l f k 0 0 (λ q. absurd (omega arith))) (s.below k b))
-        (rw (get_or-set_same l f 0 0 h) (inr (refl, p.unreached f exists (sym (s.rest f (omega arith)) ∙ e))));
-    rest = λ k b. get_or-set_other l f k 0 0 (λ q. absurd (omega arith)) ∙ s.rest k (omega arith);
-  }
-
-  pub settled_keep : (at l f ≡ no_depth → ⊥) → Settled g (f + 1) old l
-  settled_keep n = record {
-    long = s.long;
-    below = below_more (λ k. DepthOf g k (at l k)) f s.below
-        (rw (s.rest f (omega arith)) (inl (p.reached f exists (λ e. n (s.rest f (omega arith) ∙ e)))));
-    rest = λ k b. s.rest k (omega arith);
-  }
-
-  -- one or the other, by what stands at f
-  pub settled_next : {new : List ℕ} → f < length l → (at l f ≡ no_depth → new ≡ set l f 0) → ((at l f ≡ no_depth → ⊥) → new ≡ l) → Settled g (f + 1) old new
-  settled_next {new} h zero_there kept = go (ℕ_discrete (at l f) no_depth)
-    where
-      go : Dec (at l f ≡ no_depth) → Settled g (f + 1) old new
-      go (yes e) = rw (zero_there e) (settled_zero h e)
-      go (no n) = rw (kept n) (settled_keep n)
+pub depth_known : (g : Program) (f : ℕ) (depth : ℕ → Option ℕ) → Sounded g depth → f < g.functions → DepthOf g f (unwrap_or (depth f) 0)
+depth_known g f depth s h = go (depth f) refl
+  where
+    go : (o : Option ℕ) → depth f ≡ o → DepthOf g f (unwrap_or o 0)
+    go None e = inr (refl, s.unreached f h e)
+    go (Some d) e = inl (s.reached f d h e)

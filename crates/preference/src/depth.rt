@@ -1,88 +1,66 @@
 // The depth of every function: level by level from the entries.
-ghost use Rattle.std.specs.Prelude.{◌≡◌, cond, ℕ, ◌<◌, ◌≤◌, length};
-ghost use Rattle.table.specs.Answer.{Ready};
+ghost use Rattle.std.specs.Prelude.{◌≡◌, ℕ, ◌<◌, ◌≤◌, None, Some, cond};
 ghost use Rattle.table.specs.Program.{program_of};
 ghost use Rattle.size.specs.Numbers.{at};
 ghost use Rattle.preference.specs.Depth.{DepthsOf};
-ghost use Rattle.preference.specs.Levels.{no_depth, Levels, leads_down, Deepened, Sounded};
+ghost use Rattle.preference.specs.Levels.{found_in, Levels, leads_down, Deepened, Sounded};
 
-use table::Counts;
+use program::Program;
 
 // Gives the entries depth 0, and no function else one.
-fn start(t: &[u8], of: Counts, depth: &mut [u32])
-    requires { Ready t.now of × (64 ≤ length depth.old) }
-    ensures depth_len_unchanged { length depth.new ≡ length depth.old }
-    ensures by_index { (f : ℕ) → f < of.functions → at depth.new f ≡ cond ((program_of t.now).entry f) 0 no_depth }
+fn start(program: &Program<'_>) -> [Option<u32>; 64]
+    ensures { (f : ℕ) → f < program.now.of.functions → found_in result f ≡ cond ((program_of program.now.table.now).entry f) (Some 0) None }
 {
-    let mut f: usize = 0;
-    while f < of.functions {
-        if program::is_entry(t, of, f) {
-            depth[f] = 0;
-        } else {
-            depth[f] = 65535;
+    let mut depth = [None; 64];
+    for f in 0..program.of.functions {
+        if program.is_entry(f) {
+            depth[f] = Some(0);
         }
-        f += 1;
     }
+    depth
 }
 
 // Whether node n leads from a function of this level to one that has no depth yet.
-fn leads_down(t: &[u8], of: Counts, depth: &[u32], level: u32, n: usize) -> bool
-    requires { Ready t.now of × (n < of.nodes) × (64 ≤ length depth.now) }
-    ensures { result ≡ leads_down (program_of t.now) level (at depth.now) n }
+fn leads_down(program: &Program<'_>, depth: &[Option<u32>; 64], level: u32, n: usize) -> bool
+    requires { n < program.now.of.nodes }
+    ensures { result ≡ leads_down (program_of program.now.table.now) level (found_in depth.now) n }
 {
-    let sort = program::sort(t, of, n);
-    let owner = program::owner(t, of, n);
-    let target = program::target_of(t, of, n);
-    ((sort == 1) | (sort == 2)) & (depth[owner] == level) & (depth[target] == 65535)
+    program.has_target(n)
+        && depth[program.owner(n)] == Some(level)
+        && depth[program.target(n)].is_none()
 }
 
 // Gives the next level to the functions that this one leads to, and says whether there was one.
-fn deepen(t: &[u8], of: Counts, depth: &mut [u32], level: u32) -> bool
-    requires ready { Ready t.now of × (64 ≤ length depth.old) × (level ≤ 64) }
-    requires levels { Levels (program_of t.now) level (at depth.old) }
-    ensures depth_len_unchanged { length depth.new ≡ length depth.old }
-    ensures deepened { Deepened (program_of t.now) level of.nodes (at depth.old) (at depth.new) result }
+fn deepen(program: &Program<'_>, depth: &mut [Option<u32>; 64], level: u32) -> bool
+    requires few { level ≤ 64 }
+    requires levels { Levels (program_of program.now.table.now) level (found_in depth.old) }
+    ensures { Deepened (program_of program.now.table.now) level program.now.of.nodes (found_in depth.old) (found_in depth.new) result }
 {
     let mut grew = false;
-    let mut n: usize = 0;
-    while n < of.nodes {
-        let at = n;
-        n += 1;
-        if leads_down(t, of, depth, level, at) {
-            depth[program::target_of(t, of, at)] = level + 1;
+    for n in 0..program.of.nodes {
+        if leads_down(program, depth, level, n) {
+            depth[program.target(n)] = Some(level + 1);
             grew = true;
         }
     }
     grew
 }
 
-// Goes down level by level, until one leads to no other function.
-fn sound(t: &[u8], of: Counts, depth: &mut [u32])
-    requires { Ready t.now of × (64 ≤ length depth.old) }
-    ensures depth_len_unchanged { length depth.new ≡ length depth.old }
-    ensures sounded { Sounded (program_of t.now) (at depth.new) }
+// Goes down level by level, until one leads to no other function: how many there are shows only then, so no `for` has them.
+fn sound(program: &Program<'_>) -> [Option<u32>; 64]
+    ensures { Sounded (program_of program.now.table.now) (found_in result) }
 {
-    start(t, of, depth);
-    let mut level: u32 = 0;
-    let mut grew = true;
-    while grew {
-        grew = deepen(t, of, depth, level);
+    let mut depth = start(program);
+    let mut level = 0;
+    while deepen(program, &mut depth, level) {
         level += 1;
     }
+    depth
 }
 
 // The depth of every function: 0 where no entry reaches it.
-pub(crate) fn depths(t: &[u8], of: Counts, depth: &mut [u32])
-    requires { Ready t.now of × (64 ≤ length depth.old) }
-    ensures depth_len_unchanged { length depth.new ≡ length depth.old }
-    ensures depths_of { DepthsOf (program_of t.now) (at depth.new) }
+pub(crate) fn depths(program: &Program<'_>) -> [u32; 64]
+    ensures { DepthsOf (program_of program.now.table.now) (at result) }
 {
-    sound(t, of, depth);
-    let mut f: usize = 0;
-    while f < of.functions {
-        if depth[f] == 65535 {
-            depth[f] = 0;
-        }
-        f += 1;
-    }
+    sound(program).map(|depth| depth.unwrap_or(0))
 }

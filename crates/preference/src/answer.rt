@@ -1,0 +1,19 @@
+// The preference order by value.
+ghost use Rattle.std.specs.Prelude.{◌≡◌, ◌≤◌, take};
+
+// The spawns of a program in the preference order: the first `count` numbers, with zeros behind them. It is handed out by value, and there is no heap.
+#[derive(Clone, Copy)]
+pub struct Order {
+    pub count: usize,
+    pub spawns: [usize; 512],
+    ghost few: { count ≤ 512 },
+}
+
+impl Order {
+    // The spawns alone.
+    pub fn as_slice(&self) -> &[usize]
+        ensures { result.now ≡ take self.now.count self.now.spawns }
+    {
+        &self.spawns[..self.count]
+    }
+}
