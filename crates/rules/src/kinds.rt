@@ -103,7 +103,7 @@ fn end_rule(t: &[u8], known: Known, s: Sum, f: usize) -> Rule
     Rule {
         on: ends_at(t, known, s, f),
         head: 4 * f + kind(s),
-        base: due_of(t, of, s, f).number(),
+        base: u32::from(due_of(t, of, s, f)),
         part: number(s, ending_of(t, of, s, f)),
         other: 4095,
     }
@@ -120,7 +120,7 @@ fn total_node_rule(t: &[u8], known: Known, n: usize) -> Rule
     Rule {
         on: true,
         head: 4 * f,
-        base: frame_size(t, of, f).number(),
+        base: u32::from(frame_size(t, of, f)),
         part: 4 * (of.functions + n),
         other: 4095,
     }
@@ -139,7 +139,7 @@ fn total_edge_rule(t: &[u8], known: Known, e: usize) -> Rule
     Rule {
         on: true,
         head: 4 * f,
-        base: frame_size(t, of, f).number(),
+        base: u32::from(frame_size(t, of, f)),
         part: number(Sum::After, p),
         other: 4 * (of.functions + n) + 2,
     }

@@ -3,46 +3,52 @@
 #![tactic(auto)]
 
 mod causes;
+mod entries;
+mod rule;
 mod turns;
 
-ghost use Rattle.std.specs.Prelude.{map, ℕ, ◌<◌, ◌≤◌, length};
-ghost use Rattle.size.specs.Size.{unbounded, value_of};
+ghost use Rattle.std.specs.Prelude.{ℕ, ◌≤◌, length};
+ghost use Rattle.size.specs.Size.{unbounded};
 ghost use Rattle.size.specs.Numbers.{at};
 ghost use Rattle.solver.specs.Words.{Named};
-ghost use Rattle.solver.specs.Values.{starts_from, Settles};
+ghost use Rattle.solver.specs.Values.{Settles};
 
 use size::Size;
-use turns::go_round;
+use turns::Rising;
 
-// The sizes of the least solution in which the first of them are at least the numbers handed in. Beside them it writes the two sums of nodes
-// that are asked for, and how many turns over the rules it took.
-pub fn solve(
-    rules: &[u64],
-    count: usize,
-    nodes: usize,
-    taken: usize,
-    numbers: &[u32],
-    afters: &mut [u32],
-    befores: &mut [u32],
-    turns: &mut u32,
-) -> [Size; 2304]
-    requires count_in_bounds { (count ≤ length rules.now) × (count ≤ 8384) × Named rules.now count }
-    requires taken_bound { (taken ≤ 2304) × (taken ≤ length numbers.now) × ((x : ℕ) → x < taken → at numbers.now x ≤ unbounded) }
-    requires nodes_bound { (nodes ≤ 512) × (nodes ≤ length afters.old) × (nodes ≤ length befores.old) }
-    ensures { Settles rules.now count (starts_from taken numbers.now) nodes (map value_of result) afters.old afters.new befores.old befores.new }
+// Sizes, the sums of paths that end at a node and of those that start there, and how many turns over the rules it took.
+#[derive(Drop)]
+pub struct Solution {
+    pub sizes: [Size; 2304],
+    pub after: [Size; 512],
+    pub before: [Size; 512],
+    pub turns: u32,
+}
+
+// The least solution of the rules in which the first sizes are at least the numbers.
+pub fn solve(rules: &[u64], numbers: &[u32]) -> Solution
+    requires named { Named rules.now (length rules.now) }
+    requires sized { (length numbers.now ≤ 2304) × ((x : ℕ) → at numbers.now x ≤ unbounded) }
+    ensures { Settles rules.now (at numbers.now) result }
 {
-    let mut causes = [65535u16; 3840];
-    let mut stamps = [0u16; 3841];
-    go_round(
-        rules,
-        count,
-        nodes,
-        taken,
-        numbers,
-        &mut causes,
-        &mut stamps,
-        afters,
-        befores,
+    let mut rising = Rising::starting(numbers);
+    let mut stop = rules.len();
+    let mut turns: u32 = 0;
+    loop {
+        turns += 1;
+        let last = rising.turn(rules, stop);
+        if last == 0 {
+            break;
+        }
+        stop = last;
+    }
+    let sizes = rising.entries.sizes;
+    let after = rising.entries.after;
+    let before = rising.entries.before;
+    Solution {
+        sizes,
+        after,
+        before,
         turns,
-    )
+    }
 }

@@ -13,4 +13,4 @@ pub overflow_mul-result-2 : goal.overflow_mul-result-2
 overflow_mul-result-2 c = omega (arith, few c.requires.0)
 
 pub returns : goal.returns
-returns c = record { on_value = refl; means = total_node_means c.requires.0 c.args.n c.frame_size.result c.requires.1 c.owner-f.ensures c.number.ensures c.frame_size.ensures }
+returns c = record { on_value = refl; means = total_node_means c.requires.0 c.args.n c.frame_size.result c.requires.1 c.owner-f.ensures c.from.ensures c.frame_size.ensures }
