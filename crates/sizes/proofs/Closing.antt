@@ -9,11 +9,11 @@ use Rattle.table.proofs.Laws.{well_formed}
 use Rattle.table.proofs.Ready.{nodes_are, few_nodes}
 use Rattle.sync.specs.Words.{member}
 use Rattle.std.proofs.lemmas.List.{get_or-take, length-take-le}
-use Rattle.size.specs.Size.{unbounded, value_of}
+use Rattle.size.specs.Size.{cap, value_of}
 use Rattle.size.specs.Numbers.{at, Written}
-use Rattle.solver.specs.declared.Solution.{Solution}
-use Rattle.solver.specs.Values.{value_at, starts_from, Settles}
-use Rattle.solver.proofs.Rises.{der_le}
+use Rattle.solver.specs.declared.solution.Solution.{Solution}
+use Rattle.solver.specs.Values.{number_at, values_of, starts_from, Settles}
+use Rattle.solver.proofs.Rises.{der_less}
 use Rattle.solver.proofs.Values.{value_size, value_after, value_before, first_starts, starts_zero}
 use Rattle.rules.specs.Rules.{entries}
 use Rattle.rules.specs.Sums.{LargestAfter, LargestBefore}
@@ -37,22 +37,21 @@ module _ (t choice : List ℕ) (known : Known) (looked : Looked t known) where
   abbrev S : Given
   S = given t choice known
 
-  -- what is derived can be started from
-  pub starts_sized : (taken : ℕ) (numbers : List ℕ) → DerivedFor t known (at choice) (starts_from taken numbers) → (x : ℕ) → at (take taken numbers) x ≤ unbounded
-  starts_sized taken numbers d x = omega (arith, first_starts taken numbers x, der_le (forms_of S) (d.each x))
-
-  module _ (taken : ℕ) (numbers : List ℕ) {rules : List ℕ} {count : ℕ} {f : Solution} (s : Settles (take count rules) (at (take taken numbers)) f) (long : count ≤ length rules) (few : taken ≤ entries (program_of t)) (lists : Lists S rules count) (d : DerivedFor t known (at choice) (starts_from taken numbers)) where
+  module _ (taken : ℕ) (numbers : List ℕ) (started : ℕ → ℕ) (from_is : (x : ℕ) → started x ≡ cap (at (take taken numbers) x)) (f : Solution) {rules : List ℕ} {count : ℕ} (s : Settles (take count rules) started f) (long : count ≤ length rules) (few : taken ≤ entries (program_of t)) (lists : Lists S rules count) (d : DerivedFor t known (at choice) (starts_from taken numbers)) where
     abbrev v : Entry → ℕ
-    v = seen (value_at s.values)
+    v = seen (number_at f)
+
+    start_is : (x : ℕ) → started x ≡ cap (starts_from taken numbers x)
+    start_is x = from_is x ∙ ap cap (first_starts taken numbers x)
 
     solved : Solved (program_of t) (member known.synchronising) (member known.reached) (at choice) v
     solved =
         words_solve S (first_lists long lists)
-        (record { each = λ x. rw (first_starts taken numbers x) (d.each x) })
-        (λ x h. first_starts taken numbers x ∙ starts_zero taken numbers x (omega (arith, entries_few looked.ready))) s.solved
+        (record { each = λ x. rw start_is (der_less (forms_of S) (cap (starts_from taken numbers x)) (omega arith) (d.each x)) })
+        (λ x h. start_is x ∙ ap cap (starts_zero taken numbers x (omega (arith, entries_few looked.ready)))) s
 
     size_is : (x : ℕ) → x < entries (program_of t) → at (map value_of f.sizes) x ≡ v (size x)
-    size_is x h = let l : x < 2304 = omega (arith, entries_few looked.ready) in ap (λ (m : List ℕ). at m x) (sym s.sizes_are) ∙ sym (value_size s.values x l) ∙ sym (seen_size (value_at s.values) x l)
+    size_is x h = let l : x < 2304 = omega (arith, entries_few looked.ready) in sym (value_size (values_of f) x l) ∙ sym (seen_size (number_at f) x l)
 
     pub found : {written : ℕ} → written ≡ entries (program_of t) → {old new old_after after old_before before : List ℕ} → Written written (at (map value_of f.sizes)) old new → Written known.of.nodes (at (map value_of f.after)) old_after after → Written known.of.nodes (at (map value_of f.before)) old_before before → FoundFor t known (at choice) old new after before
     found e {old} {new} {old_after} {after} {old_before} {before} q a b =
@@ -79,7 +78,7 @@ module _ (t choice : List ℕ) (known : Known) (looked : Looked t known) where
         sum_low n h = omega (arith, node_low n h, few_nodes t known.of looked.ready)
 
         after_is : (n : ℕ) → n < (program_of t).nodes → v (along After n) ≡ at after n
-        after_is n h = seen_along (value_at s.values) After n (sum_low n h) ∙ value_after s.values (2304 + n) (omega arith) (omega (arith, sum_low n h)) ∙ ap (at s.values.after) (omega arith) ∙ ap (λ (m : List ℕ). at m n) s.after_are ∙ sym (a.written n (node_low n h))
+        after_is n h = seen_along (number_at f) After n (sum_low n h) ∙ value_after (values_of f) (2304 + n) (omega arith) (omega (arith, sum_low n h)) ∙ ap (at (values_of f).after) (omega arith) ∙ sym (a.written n (node_low n h))
 
         before_is : (n : ℕ) → n < (program_of t).nodes → v (along Before n) ≡ at before n
-        before_is n h = seen_along (value_at s.values) Before n (sum_low n h) ∙ value_before s.values (2816 + n) (omega arith) (omega (arith, sum_low n h)) ∙ ap (at s.values.before) (omega arith) ∙ ap (λ (m : List ℕ). at m n) s.before_are ∙ sym (b.written n (node_low n h))
+        before_is n h = seen_along (number_at f) Before n (sum_low n h) ∙ value_before (values_of f) (2816 + n) (omega arith) (omega (arith, sum_low n h)) ∙ ap (at (values_of f).before) (omega arith) ∙ sym (b.written n (node_low n h))

@@ -13,7 +13,7 @@ ghost use Rattle.sizes.specs.Trials.{DerivedFor, FoundFor};
 use listed::list::{list_rules, room};
 use rules::Known;
 use size::Size;
-use solver::solve;
+use solver::solution::Solution;
 
 // Writes sizes as numbers, at the buffer's edge.
 fn write_sizes(sizes: &[Size], out: &mut [u32])
@@ -46,11 +46,12 @@ pub(crate) fn settle(
     ensures { FoundFor t.now known (at choice.now) out.old out.new after.new before.new }
 {
     let of = known.of;
-    let found = solve(&rules[..count], &numbers[..taken]);
-    write_sizes(&found.sizes[..4 * (of.functions + of.nodes)], out);
-    write_sizes(&found.after[..of.nodes], after);
-    write_sizes(&found.before[..of.nodes], before);
-    *passes = found.turns;
+    let mut found = Solution::starting(&numbers[..taken]);
+    found.solve(&rules[..count]);
+    write_sizes(&found.sizes()[..4 * (of.functions + of.nodes)], out);
+    write_sizes(&found.after()[..of.nodes], after);
+    write_sizes(&found.before()[..of.nodes], before);
+    *passes = found.turns();
 }
 
 // The least sizes of a choice, from zeros, written over the first numbers. Beside them it writes the sums of nodes that safety asks for,

@@ -129,19 +129,19 @@ turn_over {rules} {v₀} {v} {k₀} {k} {i} {end} {last} turn q = record {
 
 -- ---- turn by turn
 
-module _ {rules : List ℕ} {from : ℕ → ℕ} {v : ℕ → ℕ} {k : ℕ → ℕ} where
-  pub settling_start : ((x : ℕ) → v x ≡ from x) → ((x : ℕ) → from x ≤ unbounded) → ((x : ℕ) → x < entry_count → k x ≡ uncaused) → Settling rules from v k (length rules) 0
-  settling_start is sized none_is = record {
-    ok = uncaused_ok (item_form rules (length rules) from) v k derived (λ x h. omega (arith, none_is x h));
-    above = λ x. omega (arith, is x);
-    stops = omega arith;
-    held = λ j a b. absurd (omega arith);
-    few = omega (arith, room_le entry_count v);
-  }
-    where
-      derived : (x : ℕ) → Derives (item_form rules (length rules) from) x (v x)
-      derived x = rule {t = v x} (start x) (λ y. 0) refl (λ y. none) (omega (arith, is x, sized x))
+pub settling_start : {rules : List ℕ} {v k : ℕ → ℕ} → ((x : ℕ) → v x ≤ unbounded) → ((x : ℕ) → x < entry_count → k x ≡ uncaused) → Settling rules v v k (length rules) 0
+settling_start {rules} {v} {k} sized none_is = record {
+  ok = uncaused_ok (item_form rules (length rules) v) v k derived (λ x h. omega (arith, none_is x h));
+  above = λ x. omega arith;
+  stops = omega arith;
+  held = λ j a b. absurd (omega arith);
+  few = omega (arith, room_le entry_count v);
+}
+  where
+    derived : (x : ℕ) → Derives (item_form rules (length rules) v) x (v x)
+    derived x = rule {t = v x} (start x) (λ y. 0) refl (λ y. none) (omega (arith, sized x))
 
+module _ {rules : List ℕ} {from : ℕ → ℕ} {v : ℕ → ℕ} {k : ℕ → ℕ} where
   module _ {w : ℕ → ℕ} {l : ℕ → ℕ} {stop turns last : ℕ} (s : Settling rules from v k stop turns) (turn : Turned rules v k w l last) where
     -- something has risen: once more
     pub settling_on : 0 < last → Settling rules from w l last (turns + 1)

@@ -1,13 +1,11 @@
 -- A turn over the rules, rule by rule. Helps proofs only.
-use Rattle.std.specs.Prelude.{ℕ, zero, suc, ◌+◌, ◌-◌, ◌<◌, ◌≤◌, min, ◌≡◌, Bool, true, false, List, [], ◌∷◌, ◌⊎◌, Option, Some, None, unwrap_or, length, map}
-use Rattle.size.specs.Size.{unbounded, value_of}
+use Rattle.std.specs.Prelude.{ℕ, zero, suc, ◌+◌, ◌-◌, ◌<◌, ◌≤◌, min, ◌≡◌, Bool, true, false, List, [], ◌∷◌, ◌⊎◌, Option, Some, None, unwrap_or, length}
+use Rattle.size.specs.Size.{unbounded}
 use Rattle.size.specs.Numbers.{at}
 use Rattle.solver.specs.System.{Form, gives}
 use Rattle.solver.specs.Words.{entry_count, head_of, word_form, item_form}
 use Rattle.solver.specs.Causes.{Ok, Put, Risen}
-use Rattle.solver.specs.Values.{Values, value_at}
 use Rattle.solver.specs.declared.causes.Causes.{Causes}
-use Rattle.solver.specs.declared.entries.Entries.{Entries}
 use Rattle.solver.specs.declared.rule.Rule.{Rule}
 
 -- What a rule of the code says: the same as its word.
@@ -22,13 +20,6 @@ rule_form r = record { head = r.head; base = r.base; body = r.part ∷ others_of
 abbrev pub AmongSizes : Option ℕ → Type 0
 AmongSizes (Some z) = z < 2304
 AmongSizes None = Unit {0}
-
--- The numbers that entries stand for.
-abbrev pub values_of : Entries → Values
-values_of e = record { sizes = map value_of e.sizes; after = map value_of e.after; before = map value_of e.before; through = map value_of e.through }
-
-abbrev pub number_at : Entries → ℕ → ℕ
-number_at e = value_at (values_of e)
 
 -- the cause of each entry
 abbrev pub cause_at : Causes → ℕ → ℕ

@@ -1,6 +1,6 @@
 use native.Mathlib.Omega.{arith}
 use Rattle.solver.proofs.Values.{size_put, after_put, before_put, through_put}
-use Rattle.solver.proofs.entries.Entries.put.Goals as goal
+use Rattle.solver.proofs.solution.Solution.put.Goals as goal
 
 pub returns-in-0-to-2303 : goal.returns-in-0-to-2303
 returns-in-0-to-2303 c = size_put c.args.self.now c.args.x c.args.size (omega arith) (omega arith)

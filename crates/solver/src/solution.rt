@@ -1,39 +1,69 @@
-// The values of entries, by number: 2,304 sizes, and then three sums for each of 512 nodes.
+// A solution, as far as it has come.
 ghost use Rattle.std.specs.Prelude.{◌≡◌, ℕ, ◌<◌, ◌≤◌, length};
-ghost use Rattle.size.specs.Size.{unbounded, value_of};
+ghost use Rattle.size.specs.Size.{cap, value_of};
 ghost use Rattle.size.specs.Numbers.{at};
 ghost use Rattle.solver.specs.System.{gives};
 ghost use Rattle.solver.specs.Causes.{Put};
-ghost use Rattle.solver.specs.Rounds.{rule_form, AmongSizes, number_at};
+ghost use Rattle.solver.specs.Values.{number_at};
+ghost use Rattle.solver.specs.Rounds.{rule_form, AmongSizes};
 
 use crate::rule::Rule;
 use size::Size;
 
+// The values of entries by number, 2,304 sizes and then three sums for each of 512 nodes, and the turns over the rules that it took.
 #[derive(Drop)]
-pub(crate) struct Entries {
-    pub sizes: [Size; 2304],
-    pub after: [Size; 512],
-    pub before: [Size; 512],
-    pub through: [Size; 512],
+pub struct Solution {
+    sizes: [Size; 2304],
+    after: [Size; 512],
+    before: [Size; 512],
+    through: [Size; 512],
+    pub(crate) turns: u32,
 }
 
-impl Entries {
-    // "every entry starts from zero", or from the numbers handed in.
-    pub(crate) fn starting(numbers: &[u32]) -> Entries
-        requires { (length numbers.now ≤ 2304) × ((x : ℕ) → at numbers.now x ≤ unbounded) }
-        ensures { (x : ℕ) → number_at result x ≡ at numbers.now x }
+impl Solution {
+    pub fn sizes(&self) -> &[Size; 2304]
+        ensures len { length result.now ≡ 2304 }
+        ensures value { result.now ≡ self.now.sizes }
     {
-        let mut sizes = [Size::ZERO; 2304];
+        &self.sizes
+    }
+
+    // The sums of paths that end at each node,
+    pub fn after(&self) -> &[Size; 512]
+        ensures len { length result.now ≡ 512 }
+        ensures value { result.now ≡ self.now.after }
+    {
+        &self.after
+    }
+
+    // and of those that start there.
+    pub fn before(&self) -> &[Size; 512]
+        ensures len { length result.now ≡ 512 }
+        ensures value { result.now ≡ self.now.before }
+    {
+        &self.before
+    }
+
+    pub fn turns(&self) -> u32 {
+        self.turns
+    }
+
+    // "every entry starts from zero", or from the numbers handed in, as sizes.
+    pub fn starting(numbers: &[u32]) -> Solution
+        requires { length numbers.now ≤ 2304 }
+        ensures { (x : ℕ) → number_at result x ≡ cap (at numbers.now x) }
+    {
+        let mut solution = Solution {
+            sizes: [Size::ZERO; 2304],
+            after: [Size::ZERO; 512],
+            before: [Size::ZERO; 512],
+            through: [Size::ZERO; 512],
+            turns: 0,
+        };
         for (x, number) in numbers.iter().enumerate() {
-            sizes[x] = Size::from_frame(*number);
+            solution.sizes[x] = Size::from_frame(*number);
         }
-        let zeros = [Size::ZERO; 512];
-        Entries {
-            sizes,
-            after: zeros,
-            before: zeros,
-            through: zeros,
-        }
+        solution
     }
 
     #[tactic(auto, using(crate::proofs::Values::size_got, crate::proofs::Values::after_got, crate::proofs::Values::before_got, crate::proofs::Values::through_got))]

@@ -1,7 +1,7 @@
 use native.Mathlib.Omega.{arith}
 use Rattle.size.proofs.Values.{value_is}
 use Rattle.solver.proofs.Values.{size_got}
-use Rattle.solver.proofs.entries.Entries.sum.Goals as goal
+use Rattle.solver.proofs.solution.Solution.sum.Goals as goal
 
 pub returns-in-Some : goal.returns-in-Some
 returns-in-Some c =
