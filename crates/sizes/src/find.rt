@@ -13,18 +13,15 @@ ghost use Rattle.sizes.specs.Trials.{DerivedFor, FoundFor};
 use listed::list::{list_rules, room};
 use rules::Known;
 use size::Size;
-use solver::solve;
+use solver::solution::Solution;
 
-// Writes the first sizes as numbers, at the buffer's edge.
-fn write_sizes(sizes: [Size; 2304], count: usize, out: &mut [u32])
-    requires { (count ≤ 2304) × (count ≤ length out.old) }
-    ensures { Written count (at (map value_of sizes)) out.old out.new }
+// Writes sizes as numbers, at the buffer's edge.
+fn write_sizes(sizes: &[Size], out: &mut [u32])
+    requires { length sizes.now ≤ length out.old }
+    ensures { Written (length sizes.now) (at (map value_of sizes.now)) out.old out.new }
 {
-    let mut i: usize = 0;
-    while i < count {
-        let size = sizes[i];
-        out[i] = size.number();
-        i += 1;
+    for (i, size) in sizes.iter().enumerate() {
+        out[i] = u32::from(*size);
     }
 }
 
@@ -48,17 +45,13 @@ pub(crate) fn settle(
     requires t_in_bounds { (entries (program_of t.now) ≤ length out.old) × (512 ≤ length after.old) × (512 ≤ length before.old) }
     ensures { FoundFor t.now known (at choice.now) out.old out.new after.new before.new }
 {
-    let sizes = solve(
-        rules,
-        count,
-        known.of.nodes,
-        taken,
-        numbers,
-        after,
-        before,
-        passes,
-    );
-    write_sizes(sizes, 4 * (known.of.functions + known.of.nodes), out);
+    let of = known.of;
+    let mut found = Solution::starting(&numbers[..taken]);
+    found.solve(&rules[..count]);
+    write_sizes(&found.sizes()[..4 * (of.functions + of.nodes)], out);
+    write_sizes(&found.after()[..of.nodes], after);
+    write_sizes(&found.before()[..of.nodes], before);
+    *passes = found.turns();
 }
 
 // The least sizes of a choice, from zeros, written over the first numbers. Beside them it writes the sums of nodes that safety asks for,
