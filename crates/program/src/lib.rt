@@ -6,8 +6,9 @@ mod functions;
 mod nodes;
 mod reading;
 
-ghost use Rattle.std.specs.Prelude.{◌≤◌};
+ghost use Rattle.std.specs.Prelude.{◌≡◌, ◌≤◌};
 ghost use Rattle.table.specs.Answer.{Ready};
+ghost use Rattle.table.specs.Program.{program_of};
 
 pub use nodes::Sort;
 use table::Counts;
@@ -18,6 +19,8 @@ pub struct Program<'a> {
     pub table: &'a [u8],
     pub of: Counts,
     ghost ready: { Ready table.now of },
+    ghost functions_are: { of.functions ≡ (program_of table.now).functions },
+    ghost nodes_are: { of.nodes ≡ (program_of table.now).nodes },
     ghost few_functions: { of.functions ≤ 64 },
     ghost few_nodes: { of.nodes ≤ 512 },
     ghost few_edges: { of.edges ≤ 1024 },

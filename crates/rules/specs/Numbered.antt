@@ -1,15 +1,16 @@
 -- The rules of the finite system by kind and number, and as numbers, as the code gives them. Helps proofs only.
-use Rattle.std.specs.Prelude.{ℕ, ◌*◌, ◌/◌, ◌%◌, ◌<◌, ◌≤◌, ◌≡◌, Bool, true, cond, List, [], ◌∷◌, ltb}
+use Rattle.std.specs.Prelude.{ℕ, ◌*◌, ◌/◌, ◌%◌, ◌<◌, ◌≤◌, ◌≡◌, Bool, true, false, List, [], ◌∷◌, Option, None, Some}
 use Rattle.table.specs.Record.{edge_from, edge_to}
 use Rattle.table.specs.Program.{program_of}
 use Rattle.table.specs.declared.Counts.{Counts}
 use Rattle.sync.specs.Words.{member}
 use Rattle.size.specs.Size.{unbounded}
 use Rattle.size.specs.Numbers.{at}
-use Rattle.solver.specs.Words.{entry_count}
+use Rattle.solver.specs.Words.{size_count, entry_count}
 use Rattle.rules.specs.System.{Entry, size, Form, starts, steps, ends, takes, start_form, step_form, end_form, total_node_form, total_edge_form, target_form}
 use Rattle.rules.specs.Entries.{entry_at}
-use Rattle.rules.specs.declared.Known.{Known}
+use Rattle.sync.specs.declared.Known.{Known}
+use Rattle.rules.specs.declared.kinds.Rule.{Rule}
 use Rattle.rules.specs.declared.kinds.Kind.{Kind}
 use Rattle.rules.specs.declared.kinds.Kind.TheVariants.{Target, Start, Step, End, TotalNode, TotalEdge}
 
@@ -23,13 +24,13 @@ count_of c TotalNode = c.nodes
 count_of c TotalEdge = c.edges
 
 -- Which of them there are,
-abbrev pub on_at : List ℕ → List ℕ → Known → Kind → ℕ → Bool
-on_at t choice known Target i = takes (program_of t) (at choice) (i / 4) (i % 4)
-on_at t choice known (Start s) n = starts (program_of t) s n
-on_at t choice known (Step s) e = steps (member known.synchronising) (member known.reached) s (edge_from t e) (edge_to t e)
-on_at t choice known (End s) f = ends (program_of t) (member known.reached) s f
-on_at t choice known TotalNode n = true
-on_at t choice known TotalEdge e = true
+abbrev pub on_at : List ℕ → Known → Kind → ℕ → Bool
+on_at choice known Target i = takes (program_of known.program.table.now) (at choice) (i / 4) (i % 4)
+on_at choice known (Start s) n = starts (program_of known.program.table.now) s n
+on_at choice known (Step s) e = steps (member known.synchronising) (member known.reached) s (edge_from known.program.table.now e) (edge_to known.program.table.now e)
+on_at choice known (End s) f = ends (program_of known.program.table.now) (member known.reached) s f
+on_at choice known TotalNode n = true
+on_at choice known TotalEdge e = true
 
 -- and what they say.
 abbrev pub form_at : List ℕ → Kind → ℕ → Form
@@ -41,15 +42,21 @@ form_at t TotalNode n = total_node_form (program_of t) n
 form_at t TotalEdge e = total_edge_form (program_of t) (edge_from t e) (edge_to t e)
 
 -- the other entry of a rule's body, if there is one: a size
-abbrev pub other_entries : ℕ → List Entry
-other_entries z = cond (ltb z 2304) (size z ∷ []) []
+abbrev pub other_entries : Option ℕ → List Entry
+other_entries None = []
+other_entries (Some z) = size z ∷ []
 
 -- Numbers that say what a rule says.
-pub record Means (f : Form) (head base part other : ℕ) : Type 0 where
-  pub head_low : head < entry_count
-  pub part_low : part < entry_count
-  pub other_low : other < 4096
-  pub base_low : base ≤ unbounded
-  pub head_is : f.head ≡ entry_at head
-  pub base_is : f.base ≡ base
-  pub body_is : f.body ≡ entry_at part ∷ other_entries other
+pub record Means (f : Form) (r : Rule) : Type 0 where
+  pub head_low : r.head < entry_count
+  pub part_low : r.part < entry_count
+  pub other_low : (z : ℕ) → r.other ≡ Some z → z < size_count
+  pub base_low : r.base ≤ unbounded
+  pub head_is : f.head ≡ entry_at r.head
+  pub base_is : f.base ≡ r.base
+  pub body_is : f.body ≡ entry_at r.part ∷ other_entries r.other
+
+-- The rule that says it, where it is there.
+abbrev pub Gives : Bool → Form → Option Rule → Type 0
+Gives on f None = on ≡ false
+Gives on f (Some r) = (on ≡ true) × Means f r

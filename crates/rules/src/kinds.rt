@@ -1,21 +1,17 @@
 // The rules of the finite system by kind and number, each as numbers: entry `head` is at least `base`, the entry `part` and the entry
-// `other`. An entry is a size, by its place in the written order, or a sum of a node, by `sums::number`.
-ghost use Rattle.std.specs.Prelude.{◌≡◌, true, ◌*◌, ◌<◌, ◌/◌, ◌%◌};
+// `other`. An entry is a size, by its place in the written order, or a sum of a node, by `Sum::number`.
+ghost use Rattle.std.specs.Prelude.{◌*◌, ◌<◌, ◌/◌, ◌%◌};
 ghost use Rattle.table.specs.Record.{edge_from, edge_to};
-ghost use Rattle.table.specs.Answer.{Ready};
 ghost use Rattle.table.specs.Program.{program_of};
 ghost use Rattle.sync.specs.Words.{member};
 ghost use Rattle.size.specs.Numbers.{at};
 ghost use Rattle.rules.specs.System.{takes, starts, steps, ends, start_form, step_form, end_form, total_node_form, total_edge_form, target_form};
-ghost use Rattle.rules.specs.Numbered.{count_of, on_at, form_at, Means};
+ghost use Rattle.rules.specs.Numbered.{count_of, on_at, form_at, Gives, Means};
 
-use crate::Known;
-use crate::sums::{
-    Sum, due_of, ending_of, ends_at, frame_size, from_node, kind, number, starts_at, steps_on,
-    to_node,
-};
+use crate::sums::{Sum, frame_size};
 use crate::targets::{kind_taken, rests_on_target};
-use table::Counts;
+use program::Program;
+use sync::Known;
 
 // Which rules: of the sizes of nodes that rest on a target; of a sum of nodes, where it starts, along the edges, and where it is done;
 // of Total, by nodes and by edges.
@@ -29,134 +25,120 @@ pub enum Kind {
     TotalEdge,
 }
 
-// A rule, if it is there. `other` is a size, or 4095 where there is no other entry.
+// What a rule says; `other` is a size.
 #[derive(Clone, Copy)]
 pub struct Rule {
-    pub on: bool,
     pub head: usize,
     pub base: u32,
     pub part: usize,
-    pub other: usize,
+    pub other: Option<usize>,
 }
 
 // Size k of node n, as number 4 n + k: a call's rests on the same size of its target, a merged spawn's on Total.
-fn target_rule(t: &[u8], choice: &[u8], known: Known, i: usize) -> Rule
-    requires { Ready t.now known.of × (i < 4 * known.of.nodes) }
-    ensures on_value { result.on ≡ takes (program_of t.now) (at choice.now) (i / 4) (i % 4) }
-    ensures means { Means (target_form (program_of t.now) (i / 4) (i % 4)) result.head result.base result.part result.other }
+fn target_rule(program: &Program<'_>, choice: &[u8], i: usize) -> Option<Rule>
+    requires { i < 4 * program.now.of.nodes }
+    ensures { Gives (takes (program_of program.now.table.now) (at choice.now) (i / 4) (i % 4)) (target_form (program_of program.now.table.now) (i / 4) (i % 4)) result }
 {
-    let of = known.of;
     let n = i / 4;
     let k = i % 4;
-    let part = 4 * program::target_of(t, of, n) + kind_taken(t, of, n, k);
-    Rule {
-        on: rests_on_target(t, choice, of, n, k),
-        head: 4 * of.functions + i,
+    let rule = Rule {
+        head: 4 * program.of.functions + i,
         base: 0,
-        part,
-        other: 4095,
-    }
+        part: 4 * program.target(n) + kind_taken(program, n, k),
+        other: None,
+    };
+    rests_on_target(program, choice, n, k).then_some(rule)
 }
 
 // A sum starts at node n.
-fn start_rule(t: &[u8], known: Known, s: Sum, n: usize) -> Rule
-    requires { Ready t.now known.of × (n < known.of.nodes) }
-    ensures on_value { result.on ≡ starts (program_of t.now) s n }
-    ensures means { Means (start_form (program_of t.now) s n) result.head result.base result.part result.other }
+fn start_rule(program: &Program<'_>, sum: Sum, n: usize) -> Option<Rule>
+    requires { n < program.now.of.nodes }
+    ensures { Gives (starts (program_of program.now.table.now) sum n) (start_form (program_of program.now.table.now) sum n) result }
 {
-    let of = known.of;
-    Rule {
-        on: starts_at(t, of, s, n),
-        head: number(s, n),
+    let rule = Rule {
+        head: sum.number(n),
         base: 0,
-        part: 4 * (of.functions + n) + kind(s),
-        other: 4095,
-    }
+        part: 4 * (program.of.functions + n) + sum.kind(),
+        other: None,
+    };
+    sum.starts_at(program, n).then_some(rule)
 }
 
 // It runs along the e-th edge.
-fn step_rule(t: &[u8], known: Known, s: Sum, e: usize) -> Rule
-    requires { Ready t.now known.of × (e < known.of.edges) }
-    ensures on_value { result.on ≡ steps (member known.synchronising) (member known.reached) s (edge_from t.now e) (edge_to t.now e) }
-    ensures means { Means (step_form (program_of t.now) s (edge_from t.now e) (edge_to t.now e)) result.head result.base result.part result.other }
+fn step_rule(known: &Known<'_>, sum: Sum, e: usize) -> Option<Rule>
+    requires { e < known.now.program.of.edges }
+    ensures { Gives (steps (member known.now.synchronising) (member known.now.reached) sum (edge_from known.now.program.table.now e) (edge_to known.now.program.table.now e)) (step_form (program_of known.now.program.table.now) sum (edge_from known.now.program.table.now e) (edge_to known.now.program.table.now e)) result }
 {
-    let of = known.of;
-    let p = program::edge_from(t, of, e);
-    let n = program::edge_to(t, of, e);
-    let b = to_node(s, p, n);
-    Rule {
-        on: steps_on(known, s, p, n),
-        head: number(s, b),
+    let program = known.program;
+    let p = program.edge_from(e);
+    let n = program.edge_to(e);
+    let (from, to) = sum.ends(p, n);
+    let rule = Rule {
+        head: sum.number(to),
         base: 0,
-        part: number(s, from_node(s, p, n)),
-        other: 4 * (of.functions + b) + 3,
-    }
+        part: sum.number(from),
+        other: Some(4 * (program.of.functions + to) + 3),
+    };
+    sum.steps_on(known, p, n).then_some(rule)
 }
 
 // It is done in function f.
-fn end_rule(t: &[u8], known: Known, s: Sum, f: usize) -> Rule
-    requires { Ready t.now known.of × (f < known.of.functions) }
-    ensures on_value { result.on ≡ ends (program_of t.now) (member known.reached) s f }
-    ensures means { Means (end_form (program_of t.now) s f) result.head result.base result.part result.other }
+fn end_rule(known: &Known<'_>, sum: Sum, f: usize) -> Option<Rule>
+    requires { f < known.now.program.of.functions }
+    ensures { Gives (ends (program_of known.now.program.table.now) (member known.now.reached) sum f) (end_form (program_of known.now.program.table.now) sum f) result }
 {
-    let of = known.of;
-    Rule {
-        on: ends_at(t, known, s, f),
-        head: 4 * f + kind(s),
-        base: due_of(t, of, s, f).number(),
-        part: number(s, ending_of(t, of, s, f)),
-        other: 4095,
-    }
+    let program = known.program;
+    let rule = Rule {
+        head: 4 * f + sum.kind(),
+        base: sum.due(&program, f).number(),
+        part: sum.number(sum.ending(&program, f)),
+        other: None,
+    };
+    sum.ends_at(known, f).then_some(rule)
 }
 
 // Total of the owner of node n.
-fn total_node_rule(t: &[u8], known: Known, n: usize) -> Rule
-    requires { Ready t.now known.of × (n < known.of.nodes) }
-    ensures on_value { result.on ≡ true }
-    ensures means { Means (total_node_form (program_of t.now) n) result.head result.base result.part result.other }
+fn total_node_rule(program: &Program<'_>, n: usize) -> Rule
+    requires { n < program.now.of.nodes }
+    ensures { Means (total_node_form (program_of program.now.table.now) n) result }
 {
-    let of = known.of;
-    let f = program::owner(t, of, n);
+    let f = program.owner(n);
     Rule {
-        on: true,
         head: 4 * f,
-        base: frame_size(t, of, f).number(),
-        part: 4 * (of.functions + n),
-        other: 4095,
+        base: frame_size(program, f).number(),
+        part: 4 * (program.of.functions + n),
+        other: None,
     }
 }
 
 // Total of the function that has the e-th edge, as the last one of an open path.
-fn total_edge_rule(t: &[u8], known: Known, e: usize) -> Rule
-    requires { Ready t.now known.of × (e < known.of.edges) }
-    ensures on_value { result.on ≡ true }
-    ensures means { Means (total_edge_form (program_of t.now) (edge_from t.now e) (edge_to t.now e)) result.head result.base result.part result.other }
+fn total_edge_rule(program: &Program<'_>, e: usize) -> Rule
+    requires { e < program.now.of.edges }
+    ensures { Means (total_edge_form (program_of program.now.table.now) (edge_from program.now.table.now e) (edge_to program.now.table.now e)) result }
 {
-    let of = known.of;
-    let p = program::edge_from(t, of, e);
-    let n = program::edge_to(t, of, e);
-    let f = program::owner(t, of, n);
+    let p = program.edge_from(e);
+    let n = program.edge_to(e);
+    let f = program.owner(n);
     Rule {
-        on: true,
         head: 4 * f,
-        base: frame_size(t, of, f).number(),
-        part: number(Sum::After, p),
-        other: 4 * (of.functions + n) + 2,
+        base: frame_size(program, f).number(),
+        part: Sum::After.number(p),
+        other: Some(4 * (program.of.functions + n) + 2),
     }
 }
 
-// Rule i of a kind.
-pub fn numbered(kind: Kind, t: &[u8], choice: &[u8], known: Known, i: usize) -> Rule
-    requires { Ready t.now known.of × (i < count_of known.of kind) }
-    ensures on_value { result.on ≡ on_at t.now choice.now known kind i }
-    ensures means { Means (form_at t.now kind i) result.head result.base result.part result.other }
+// Rule i of a kind, if it is there.
+pub fn numbered(kind: Kind, known: &Known<'_>, choice: &[u8], i: usize) -> Option<Rule>
+    requires { i < count_of known.now.program.of kind }
+    ensures { Gives (on_at choice.now known.now kind i) (form_at known.now.program.table.now kind i) result }
 {
+    let program = &known.program;
     match kind {
-        Kind::Target => target_rule(t, choice, known, i),
-        Kind::Start(s) => start_rule(t, known, s, i),
-        Kind::Step(s) => step_rule(t, known, s, i),
-        Kind::End(s) => end_rule(t, known, s, i),
-        Kind::TotalNode => total_node_rule(t, known, i),
-        Kind::TotalEdge => total_edge_rule(t, known, i),
+        Kind::Target => target_rule(program, choice, i),
+        Kind::Start(sum) => start_rule(program, sum, i),
+        Kind::Step(sum) => step_rule(known, sum, i),
+        Kind::End(sum) => end_rule(known, sum, i),
+        Kind::TotalNode => Some(total_node_rule(program, i)),
+        Kind::TotalEdge => Some(total_edge_rule(program, i)),
     }
 }

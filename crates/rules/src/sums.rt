@@ -1,6 +1,5 @@
 // The sums of nodes along open paths.
 ghost use Rattle.std.specs.Prelude.{◌≡◌, ◌+◌, ◌<◌, ◌≤◌};
-ghost use Rattle.table.specs.Answer.{Ready};
 ghost use Rattle.table.specs.Program.{program_of};
 ghost use Rattle.sync.specs.Words.{member};
 ghost use Rattle.size.specs.Size.{value_of};
@@ -8,10 +7,10 @@ ghost use Rattle.rules.specs.Rules.{frame_of};
 ghost use Rattle.rules.specs.System.{kind_for, starts, from, to, steps, ending, ends, due};
 ghost use Rattle.rules.specs.Entries.{offset};
 
-use crate::Known;
+use program::Program;
 use size::Size;
+use sync::Known;
 use sync::words::has;
-use table::Counts;
 
 // Which sum of a node: the largest, over open paths, of
 // After: Post of the first node and Through of the others, on paths that end at the node with no member after the first;
@@ -24,126 +23,100 @@ pub enum Sum {
     Through,
 }
 
-// The kind of size that a sum starts from at a node, and of the size that it gives a function.
-pub(crate) fn kind(s: Sum) -> usize
-    ensures { (result ≡ kind_for s) × (result ≤ 3) }
-{
-    match s {
-        Sum::After => 1,
-        Sum::Before => 2,
-        Sum::Through => 3,
+impl Sum {
+    // The kind of size that a sum starts from at a node, and of the size that it gives a function.
+    pub(crate) fn kind(self) -> usize
+        ensures { (result ≡ kind_for self) × (result ≤ 3) }
+    {
+        match self {
+            Sum::After => 1,
+            Sum::Before => 2,
+            Sum::Through => 3,
+        }
     }
-}
 
-// The number of a node's sum among the entries.
-pub(crate) fn number(s: Sum, n: usize) -> usize
-    requires { n < 512 }
-    ensures { (result ≡ offset s + n) × (result < 3840) }
-{
-    match s {
-        Sum::After => 2304 + n,
-        Sum::Before => 2816 + n,
-        Sum::Through => 3328 + n,
+    // The number of a node's sum among the entries.
+    pub(crate) fn number(self, n: usize) -> usize
+        requires { n < 512 }
+        ensures { (result ≡ offset self + n) × (result < 3840) }
+    {
+        match self {
+            Sum::After => 2304 + n,
+            Sum::Before => 2816 + n,
+            Sum::Through => 3328 + n,
+        }
     }
-}
 
-// Whether a sum starts at node n.
-pub(crate) fn starts_at(t: &[u8], of: Counts, s: Sum, n: usize) -> bool
-    requires { Ready t.now of × (n < of.nodes) }
-    ensures { result ≡ starts (program_of t.now) s n }
-{
-    match s {
-        Sum::After => true,
-        Sum::Before => true,
-        Sum::Through => n == program::first(t, of, program::owner(t, of, n)),
+    // Whether it starts at node n.
+    pub(crate) fn starts_at(self, program: &Program<'_>, n: usize) -> bool
+        requires { n < program.now.of.nodes }
+        ensures { result ≡ starts (program_of program.now.table.now) self n }
+    {
+        match self {
+            Sum::After | Sum::Before => true,
+            Sum::Through => n == program.first(program.owner(n)),
+        }
     }
-}
 
-// Where a sum comes from, of the two ends of an edge from p to n.
-pub(crate) fn from_node(s: Sum, p: usize, n: usize) -> usize
-    requires { (p < 512) × (n < 512) }
-    ensures { (result ≡ from s p n) × (result < 512) }
-{
-    match s {
-        Sum::After => p,
-        Sum::Before => n,
-        Sum::Through => p,
+    // Where it comes from and where it goes, of the two ends of an edge from p to n.
+    pub(crate) fn ends(self, p: usize, n: usize) -> (usize, usize)
+        ensures { (result.0 ≡ from self p n) × (result.1 ≡ to self p n) }
+    {
+        match self {
+            Sum::After | Sum::Through => (p, n),
+            Sum::Before => (n, p),
+        }
     }
-}
 
-// And where it goes.
-pub(crate) fn to_node(s: Sum, p: usize, n: usize) -> usize
-    requires { (p < 512) × (n < 512) }
-    ensures { (result ≡ to s p n) × (result < 512) }
-{
-    match s {
-        Sum::After => n,
-        Sum::Before => p,
-        Sum::Through => n,
+    // Whether no member of the set is in its way there.
+    pub(crate) fn steps_on(self, known: &Known<'_>, p: usize, n: usize) -> bool
+        ensures { result ≡ steps (member known.now.synchronising) (member known.now.reached) self p n }
+    {
+        match self {
+            Sum::After => !has(known.synchronising, n),
+            Sum::Before => !has(known.synchronising, p),
+            Sum::Through => !has(known.synchronising, n) & has(known.reached, p),
+        }
     }
-}
 
-// Whether no member of the set is in its way there.
-pub(crate) fn steps_on(known: Known, s: Sum, p: usize, n: usize) -> bool
-    ensures { result ≡ steps (member known.synchronising) (member known.reached) s p n }
-{
-    let set = known.synchronising;
-    let reached = known.reached;
-    match s {
-        Sum::After => !has(set, n),
-        Sum::Before => !has(set, p),
-        Sum::Through => !has(set, n) & has(reached, p),
+    // The node of function f at which it is done.
+    pub(crate) fn ending(self, program: &Program<'_>, f: usize) -> usize
+        requires { f < program.now.of.functions }
+        ensures { (result ≡ ending (program_of program.now.table.now) self f) × (result < program.now.of.nodes) }
+    {
+        match self {
+            Sum::After | Sum::Through => program.exit(f),
+            Sum::Before => program.first(f),
+        }
     }
-}
 
-// The node of function f at which a sum is done.
-pub(crate) fn ending_of(t: &[u8], of: Counts, s: Sum, f: usize) -> usize
-    requires { Ready t.now of × (f < of.functions) }
-    ensures { (result ≡ ending (program_of t.now) s f) × (result < of.nodes) }
-{
-    match s {
-        Sum::After => program::exit(t, of, f),
-        Sum::Before => program::first(t, of, f),
-        Sum::Through => program::exit(t, of, f),
+    // Whether it gets there.
+    pub(crate) fn ends_at(self, known: &Known<'_>, f: usize) -> bool
+        requires { f < known.now.program.of.functions }
+        ensures { result ≡ ends (program_of known.now.program.table.now) (member known.now.reached) self f }
+    {
+        match self {
+            Sum::After | Sum::Before => true,
+            Sum::Through => has(known.reached, known.program.exit(f)),
+        }
     }
-}
 
-// Whether it gets there.
-pub(crate) fn ends_at(t: &[u8], known: Known, s: Sum, f: usize) -> bool
-    requires { Ready t.now known.of × (f < known.of.functions) }
-    ensures { result ≡ ends (program_of t.now) (member known.reached) s f }
-{
-    let reached = known.reached;
-    match s {
-        Sum::After => true,
-        Sum::Before => true,
-        Sum::Through => has(reached, program::exit(t, known.of, f)),
+    // What is due there besides.
+    pub(crate) fn due(self, program: &Program<'_>, f: usize) -> Size
+        requires { f < program.now.of.functions }
+        ensures { value_of result ≡ due (program_of program.now.table.now) self f }
+    {
+        match self {
+            Sum::After | Sum::Through => Size::ZERO,
+            Sum::Before => frame_size(program, f),
+        }
     }
-}
-
-fn narrow(x: usize) -> u32
-    requires { x < 65536 }
-    ensures { result ≡ x }
-{
-    x as u32
 }
 
 // The frame of function f, as a size.
-pub(crate) fn frame_size(t: &[u8], of: Counts, f: usize) -> Size
-    requires { Ready t.now of × (f < of.functions) }
-    ensures { value_of result ≡ frame_of (program_of t.now) f }
+pub(crate) fn frame_size(program: &Program<'_>, f: usize) -> Size
+    requires { f < program.now.of.functions }
+    ensures { value_of result ≡ frame_of (program_of program.now.table.now) f }
 {
-    Size::from_frame(narrow(program::frame(t, of, f)))
-}
-
-// What is due there besides.
-pub(crate) fn due_of(t: &[u8], of: Counts, s: Sum, f: usize) -> Size
-    requires { Ready t.now of × (f < of.functions) }
-    ensures { value_of result ≡ due (program_of t.now) s f }
-{
-    match s {
-        Sum::After => Size::ZERO,
-        Sum::Before => frame_size(t, of, f),
-        Sum::Through => Size::ZERO,
-    }
+    Size::from_frame(program.frame(f) as u32)
 }

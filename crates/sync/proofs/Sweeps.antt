@@ -11,7 +11,9 @@ use borrow.Author.Tests.{eq-eqb, eqb-true}
 use Rattle.table.proofs.Booleans.{either_way, not_both, or_true}
 use Rattle.table.proofs.Below.{count_strict}
 use Rattle.sync.specs.Words.{member}
-use Rattle.sync.specs.Search.{room, Grown, same, more, Swept}
+use Rattle.std.specs.Prelude.{Option}
+use Rattle.std.specs.Bool.{then_some}
+use Rattle.sync.specs.Search.{SweptAll, room, Grown, same, more, Swept}
 
 -- ---- one item more
 
@@ -79,3 +81,8 @@ module _ (lets : List ℕ → ℕ → Bool) (item : ℕ → ℕ) (total : ℕ) (
       quiet = λ q. not_both true refl q;
       falls = omega (arith, with_room u v (item k) with small fresh, p.falls);
     }
+
+  -- where all items were looked at
+  pub swept_all : (v : List ℕ) (grew : Bool) (o : Option (List ℕ)) → Swept lets item total total w v grew → o ≡ then_some grew v → SweptAll lets item total w o
+  swept_all v true o p e = rw e (p.grown, omega (arith, p.falls))
+  swept_all v false o p e = rw e (p.quiet refl).1

@@ -1,5 +1,5 @@
 -- For the contracts of the search. Helps proofs only: no public promise rests on it.
-use Rattle.std.specs.Prelude.{ℕ, ◌+◌, ◌<◌, ◌≤◌, ◌≡◌, List, Bool, true, false, cond, not, ◌&&◌, ◌||◌, ◌⊎◌, ◌↔◌, eqb, get_or}
+use Rattle.std.specs.Prelude.{ℕ, ◌+◌, ◌<◌, ◌≤◌, ◌≡◌, List, Bool, true, false, cond, not, ◌&&◌, ◌||◌, ◌⊎◌, ◌↔◌, eqb, get_or, Option, None, Some}
 use Rattle.table.specs.Below.{any, count}
 use Rattle.table.specs.Record.{sync, call, edge_from, edge_to}
 use Rattle.table.specs.Program.{Program, program_of}
@@ -31,13 +31,18 @@ pub record Swept (lets : List ℕ → ℕ → Bool) (item : ℕ → ℕ) (total 
   pub quiet : grew ≡ false → (v ≡ w) × ((i : ℕ) → i < k → lets w i ≡ false)
   pub falls : room v + cond grew 1 0 ≤ room w
 
+-- what a sweep over all items gives: nothing where none was let in, and else a larger set
+abbrev pub SweptAll : (List ℕ → ℕ → Bool) → (ℕ → ℕ) → ℕ → List ℕ → Option (List ℕ) → Type 0
+SweptAll lets item total w None = (i : ℕ) → i < total → lets w i ≡ false
+SweptAll lets item total w (Some v) = Grown lets item total w v × (room v < room w)
+
 -- the e-th edge leads to a node that is not in the set yet and not to be avoided
 abbrev pub leads_on : List ℕ → List ℕ → List ℕ → ℕ → Bool
 leads_on t avoid words e = member words (edge_from t e) && not (member avoid (edge_to t e)) && not (member words (edge_to t e))
 
--- a sweep over k edges in an order
-abbrev pub EdgesSwept : List ℕ → List ℕ → List ℕ → ℕ → ℕ → List ℕ → List ℕ → Bool → Type 0
-EdgesSwept t order avoid k = Swept (λ w i. leads_on t avoid w (get_or order i 0)) (λ i. edge_to t (get_or order i 0)) k
+-- a sweep over the edges in an order
+abbrev pub EdgesSwept : List ℕ → List ℕ → List ℕ → ℕ → List ℕ → Option (List ℕ) → Type 0
+EdgesSwept t order avoid = SweptAll (λ w i. leads_on t avoid w (get_or order i 0)) (λ i. edge_to t (get_or order i 0))
 
 -- node n is a call that is not in the set yet, of a function to whose exit no path gets through
 abbrev pub blocked_call : List ℕ → List ℕ → List ℕ → ℕ → Bool

@@ -27,14 +27,10 @@ pub fn has(set: [u64; 8], n: usize) -> bool
     word_has(set[n / 64], n % 64)
 }
 
-// The set with n besides.
-pub(crate) fn with(set: [u64; 8], n: usize) -> [u64; 8]
+// Puts n into the set.
+pub(crate) fn insert(set: &mut [u64; 8], n: usize)
     requires { n < 512 }
-    ensures { (m : ℕ) → member result m ≡ (eqb m n || member set m) }
+    ensures { (m : ℕ) → member set.new m ≡ (eqb m n || member set.old m) }
 {
-    let mut words = set;
-    let i = n / 64;
-    let word = word_with(words[i], n % 64);
-    words[i] = word;
-    words
+    set[n / 64] = word_with(set[n / 64], n % 64);
 }

@@ -1,15 +1,7 @@
-use native.Mathlib.Omega.{arith}
-use Rattle.rules.proofs.Numbers.{few, end_means}
+use Rattle.rules.proofs.Numbers.{gives, end_means}
 use Rattle.rules.proofs.kinds.end_rule.Goals as goal
 
-pub overflow_mul-result : goal.overflow_mul-result
-overflow_mul-result c = omega (arith, few c.requires.0)
-
-pub overflow_add-result : goal.overflow_add-result
-overflow_add-result c = omega (arith, few c.requires.0)
-
-pub number-requires-2 : goal.number-requires-2
-number-requires-2 c = omega (arith, few c.requires.0)
-
 pub returns : goal.returns
-returns c = record { on_value = c.ends_at.ensures; means = end_means c.requires.0 c.args.s c.args.f c.due_of.result c.requires.1 c.kind.ensures c.number.ensures c.due_of.ensures c.ending_of.ensures c.number-2.ensures }
+returns c =
+    gives _ _ _ c.then_some.ensures c.ends_at.ensures
+    (end_means c.args.known.now.program.ready c.args.sum c.args.f c.due.result c.requires c.kind.ensures c.number.ensures c.due.ensures c.ending.ensures c.number-2.ensures)

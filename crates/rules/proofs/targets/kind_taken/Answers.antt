@@ -1,11 +1,11 @@
 use mathlib.Core.Path.{sym, ◌∙◌}
-use Rattle.table.specs.Program.{program_of}
-use Rattle.rules.proofs.Taking.{taken_call, taken_other}
 use borrow.Author.Rules.{rules}
+use borrow.Author.Tests.{eqb-true, eqb-false}
+use Rattle.rules.proofs.Taking.{taken_call, taken_other}
 use Rattle.rules.proofs.targets.kind_taken.Goals as goal
 
-pub returns-then-sort-eq1 : goal.returns-then-sort-eq1
-returns-then-sort-eq1 c = let a = c.args in (sym (taken_call (program_of a.t.now) a.n a.k (sym c.sort.ensures ∙ c.if-sort-eq1.true)), search rules)
+pub returns-then-is_call : goal.returns-then-is_call
+returns-then-is_call c = (sym (taken_call _ _ _ (eqb-true _ _ (sym c.is_call.ensures ∙ c.if-is_call.true))), search rules)
 
-pub returns-else-sort-eq1 : goal.returns-else-sort-eq1
-returns-else-sort-eq1 c = let a = c.args in (sym (taken_other (program_of a.t.now) a.n a.k (λ e. c.if-sort-eq1.false (c.sort.ensures ∙ e))), search rules)
+pub returns-else-is_call : goal.returns-else-is_call
+returns-else-is_call c = (sym (taken_other _ _ _ (eqb-false _ _ (sym c.is_call.ensures ∙ c.if-is_call.false))), search rules)

@@ -2,8 +2,8 @@
 use Rattle.sync.specs.Search.{Stands, room}
 use Rattle.sync.proofs.settle.settle.Given as goal
 
-abbrev pub invariant-loop-of : goal.invariant-loop-of
-invariant-loop-of l = Stands l.t l.from l.set l.reached
+abbrev pub invariant-loop-more : goal.invariant-loop-more
+invariant-loop-more l = Stands l.program.table.now l.from l.synchronising l.reached
 
-abbrev pub decreases-loop-of : goal.decreases-loop-of
-decreases-loop-of l = room l.set
+abbrev pub decreases-loop-more : goal.decreases-loop-more
+decreases-loop-more l = room l.synchronising

@@ -1,7 +1,0 @@
-use native.Mathlib.Omega.{arith}
-use Rattle.sync.proofs.Members.{member_with}
-use borrow.Author.Rules.{rules}
-use Rattle.sync.proofs.words.with.Goals as goal
-
-pub returns : goal.returns
-returns c = member_with c.args.set (search rules) c.args.n c.word_with-word.result (omega arith) c.word_with-word.ensures
