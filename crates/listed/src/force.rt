@@ -9,6 +9,7 @@ use rules::targets::rests_on_target;
 use sync::Known;
 
 // The rules of a table where every spawn is unguarded: no choice has others.
+#[tactic(auto, using(crate::proofs::Widest::widest_taken))]
 pub fn list_widest(known: &Known<'_>, rules: &mut [u64]) -> usize
     requires { slots known.now.program.of ≤ length rules.old }
     ensures rules_len_unchanged { (length rules.new ≡ length rules.old) × (result ≤ slots known.now.program.of) }

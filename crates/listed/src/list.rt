@@ -111,7 +111,7 @@ pub fn room(of: Counts) -> usize
     8 * of.nodes + 4 * of.edges + 3 * of.functions
 }
 
-// The words are lent, and how many there are of them goes from each of these to the next.
+// The words stand in fixed memory that the caller lends, so each of these takes and gives how many there are.
 impl Source<'_> {
     // The kind and number of the rule at place i of a group.
     fn slot(&self, group: Group, i: usize) -> Slot
