@@ -1,0 +1,50 @@
+// The records of a line.
+use super::numbers::Numbers;
+use std::alloc::AllocError;
+
+// So many records that differ at most in a and b, which may go up by one from each to the next.
+#[derive(Clone, Copy, Debug)]
+pub struct Records {
+    pub kind: u8,
+    pub sort: u8,
+    pub a: u16,
+    pub b: u16,
+    pub c: u16,
+    pub count: u16,
+    pub a_rises: bool,
+    pub b_rises: bool,
+}
+
+impl Records {
+    pub fn of(text: &str) -> Records {
+        let mut numbers = Numbers::of(text);
+        Records {
+            kind: numbers.byte(),
+            sort: numbers.byte(),
+            a: numbers.next(),
+            b: numbers.next(),
+            c: numbers.next(),
+            count: numbers.next().max(1),
+            a_rises: numbers.flag(),
+            b_rises: numbers.flag(),
+        }
+    }
+
+    // The bytes of the record at this place of the run.
+    fn record(&self, place: u16) -> [u8; 8] {
+        let a = if self.a_rises { self.a.wrapping_add(place) } else { self.a };
+        let b = if self.b_rises { self.b.wrapping_add(place) } else { self.b };
+        let [a_low, a_high] = a.to_le_bytes();
+        let [b_low, b_high] = b.to_le_bytes();
+        let [c_low, c_high] = self.c.to_le_bytes();
+        [self.kind, self.sort, a_low, a_high, b_low, b_high, c_low, c_high]
+    }
+
+    // Puts the records behind the bytes of a table.
+    pub fn put(&self, table: &mut Vec<u8>) -> Result<(), AllocError> {
+        for place in 0..self.count {
+            table.extend_from_slice(&self.record(place))?;
+        }
+        Ok(())
+    }
+}
