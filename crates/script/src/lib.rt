@@ -19,6 +19,10 @@
 mod numbers;
 mod records;
 
+ghost use Rattle.std.specs.Prelude.{◌≡◌, [], IfOk, OnOk};
+ghost use Rattle.script.specs.Line.{ReadsAs};
+ghost use Rattle.script.specs.State.{Takes};
+
 use numbers::Numbers;
 use records::Records;
 use std::alloc::{AllocError, Global};
@@ -32,7 +36,7 @@ pub enum Line<'a> {
     // A table of this name begins.
     Table(&'a str),
     // The table goes on with so many bytes.
-    Bytes(usize),
+    Bytes(u16),
     Records(Records),
     Run(Run),
 }
@@ -58,7 +62,10 @@ impl Run {
 }
 
 impl<'a> Line<'a> {
-    pub fn read(alloc: Global, text: &'a str) -> Result<Line<'a>, AllocError> {
+    #[tactic(auto, using(std::proofs::lemmas::Str::Pattern::strip_prefix_char))]
+    pub fn read(alloc: Global, text: &'a str) -> Result<Line<'a>, AllocError>
+        ensures { IfOk result (ReadsAs text.now) }
+    {
         if text.is_empty() || text.starts_with('#') {
             return Ok(Line::Comment);
         }
@@ -69,7 +76,7 @@ impl<'a> Line<'a> {
             return Ok(Line::Table(name.trim()));
         }
         if let Some(count) = text.strip_prefix('+') {
-            return Ok(Line::Bytes(usize::from(Numbers::of(count).next())));
+            return Ok(Line::Bytes(Numbers::of(count).next()));
         }
         if let Some(run) = text.strip_prefix('?') {
             return Ok(Line::Run(Run::read(alloc, run)?));
@@ -87,7 +94,9 @@ pub struct State<'a> {
 }
 
 impl<'a> State<'a> {
-    pub fn new(alloc: Global) -> State<'a> {
+    pub fn new(alloc: Global) -> State<'a>
+        ensures { result.table.items ≡ [] }
+    {
         State {
             call: "",
             name: "",
@@ -95,20 +104,25 @@ impl<'a> State<'a> {
         }
     }
 
-    pub fn take(&mut self, line: &Line<'a>) -> Result<(), AllocError> {
+    pub fn take(&mut self, line: &Line<'a>) -> Result<(), AllocError>
+        ensures { OnOk result (Takes self.old line.now self.new) }
+    {
         match line {
-            Line::Call(call) => self.call = call,
+            Line::Comment | Line::Run(_) => Ok(()),
+            Line::Call(call) => {
+                self.call = call;
+                Ok(())
+            }
             Line::Table(name) => {
                 self.name = name;
                 self.table.clear();
+                Ok(())
             }
             Line::Bytes(count) => {
-                let length = self.table.len().saturating_add(*count);
-                self.table.resize(length, 0)?;
+                let length = self.table.len() + usize::from(*count);
+                self.table.resize(length, 0)
             }
-            Line::Records(records) => records.put(&mut self.table)?,
-            Line::Comment | Line::Run(_) => {}
+            Line::Records(records) => records.put(&mut self.table),
         }
-        Ok(())
     }
 }

@@ -1,4 +1,6 @@
 // The records of a line.
+ghost use Rattle.std.specs.Prelude.{◌≡◌, ◌+◌, ◌*◌, OnOk, vec_len};
+
 use super::numbers::Numbers;
 use std::alloc::AllocError;
 
@@ -41,7 +43,9 @@ impl Records {
     }
 
     // Puts the records behind the bytes of a table.
-    pub fn put(&self, table: &mut Vec<u8>) -> Result<(), AllocError> {
+    pub fn put(&self, table: &mut Vec<u8>) -> Result<(), AllocError>
+        ensures { OnOk result (vec_len table.new ≡ vec_len table.old + 8 * self.now.count) }
+    {
         for place in 0..self.count {
             table.extend_from_slice(&self.record(place))?;
         }

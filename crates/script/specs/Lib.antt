@@ -1,0 +1,3 @@
+-- What is believed.
+pub mod Line
+pub mod State
