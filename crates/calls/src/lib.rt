@@ -40,12 +40,7 @@ fn show_call<W: Write>(
 }
 
 // `NAME: ` and what the call answers to a run.
-fn show_run<W: Write>(
-    out: &mut W,
-    alloc: Global,
-    state: &State<'_>,
-    run: &Run,
-) -> io::Result<()> {
+fn show_run<W: Write>(out: &mut W, alloc: Global, state: &State<'_>, run: &Run) -> io::Result<()> {
     write!(out, "{}: ", state.name)?;
     match state.call.parse::<Call>() {
         Ok(call) => show_call(out, alloc, call, &state.table, run),

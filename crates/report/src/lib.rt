@@ -3,9 +3,8 @@
 
 ghost use Rattle.std.specs.Prelude.{◌≡◌, ◌≤◌, length};
 
-use std::fmt;
-use std::io;
 use std::io::Write;
+use std::{fmt, io};
 use table::Checked;
 
 // What a sizes buffer holds before each run. It is no size, so what is left of it can be counted.

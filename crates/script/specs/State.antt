@@ -1,8 +1,9 @@
 -- What the lines of a script come to, one after another.
-use Rattle.std.specs.Prelude.{ℕ, ◌≡◌, ◌+◌, ◌*◌, [], ◌++◌, replicate, vec_len}
+use Rattle.std.specs.Prelude.{◌≡◌, [], ◌++◌, replicate}
 use Rattle.script.specs.declared.Line.{Line}
 use Rattle.script.specs.declared.Line.TheVariants.{Comment, Call, Table, Bytes, Records, Run}
 use Rattle.script.specs.declared.State.{State}
+use Rattle.script.specs.Records.{records_before}
 
 abbrev pub SameCall : State → State → Type 0
 SameCall old new = new.call.now ≡ old.call.now
@@ -19,5 +20,5 @@ Takes old (Comment) new = SameCall old new × SameName old new × SameTable old 
 Takes old (Call call) new = (new.call.now ≡ call.now) × SameName old new × SameTable old new
 Takes old (Table name) new = SameCall old new × (new.name.now ≡ name.now) × (new.table.items ≡ [])
 Takes old (Bytes count) new = SameCall old new × SameName old new × (new.table.items ≡ old.table.items ++ replicate count 0)
-Takes old (Records records) new = SameCall old new × SameName old new × (vec_len new.table ≡ vec_len old.table + 8 * records.count)
+Takes old (Records records) new = SameCall old new × SameName old new × (new.table.items ≡ old.table.items ++ records_before records records.count)
 Takes old (Run _) new = SameCall old new × SameName old new × SameTable old new

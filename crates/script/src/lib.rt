@@ -16,6 +16,7 @@
 //     ? 7 40 0 3 0 3      a choice of 7 bytes, 0 3 0 3 0 0 0, and a buffer of 40 numbers
 #![tactic(auto)]
 
+mod input;
 mod numbers;
 mod records;
 
@@ -23,6 +24,7 @@ ghost use Rattle.std.specs.Prelude.{◌≡◌, [], IfOk, OnOk};
 ghost use Rattle.script.specs.Line.{ReadsAs};
 ghost use Rattle.script.specs.State.{Takes};
 
+pub use input::read_full;
 use numbers::Numbers;
 use records::Records;
 use std::alloc::{AllocError, Global};

@@ -1,5 +1,6 @@
 // The records of a line.
-ghost use Rattle.std.specs.Prelude.{◌≡◌, ◌+◌, ◌*◌, OnOk, vec_len};
+ghost use Rattle.std.specs.Prelude.{◌≡◌, ◌++◌, OnOk};
+ghost use Rattle.script.specs.Records.{field_at, record_at, records_before};
 
 use super::numbers::Numbers;
 use std::alloc::AllocError;
@@ -32,23 +33,36 @@ impl Records {
         }
     }
 
-    // The bytes of the record at this place of the run.
-    fn record(&self, place: u16) -> [u8; 8] {
-        let a = if self.a_rises { self.a.wrapping_add(place) } else { self.a };
-        let b = if self.b_rises { self.b.wrapping_add(place) } else { self.b };
-        let [a_low, a_high] = a.to_le_bytes();
-        let [b_low, b_high] = b.to_le_bytes();
+    // The record at this place of the run.
+    fn record(&self, place: u16) -> [u8; 8]
+        ensures { result ≡ record_at self.now place }
+    {
+        let [a_low, a_high] = field_at(self.a_rises, self.a, place).to_le_bytes();
+        let [b_low, b_high] = field_at(self.b_rises, self.b, place).to_le_bytes();
         let [c_low, c_high] = self.c.to_le_bytes();
-        [self.kind, self.sort, a_low, a_high, b_low, b_high, c_low, c_high]
+        [
+            self.kind, self.sort, a_low, a_high, b_low, b_high, c_low, c_high,
+        ]
     }
 
     // Puts the records behind the bytes of a table.
     pub fn put(&self, table: &mut Vec<u8>) -> Result<(), AllocError>
-        ensures { OnOk result (vec_len table.new ≡ vec_len table.old + 8 * self.now.count) }
+        ensures { OnOk result (table.new.items ≡ table.old.items ++ records_before self.now self.now.count) }
     {
         for place in 0..self.count {
             table.extend_from_slice(&self.record(place))?;
         }
         Ok(())
+    }
+}
+
+// A field in the record at this place of a run.
+fn field_at(rises: bool, first: u16, place: u16) -> u16
+    ensures { result ≡ field_at rises first place }
+{
+    if rises {
+        first.wrapping_add(place)
+    } else {
+        first
     }
 }
