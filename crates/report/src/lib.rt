@@ -1,7 +1,7 @@
 // Answers as text on a writer, in document 01's words. What is printed is tested, not proved.
 #![tactic(auto)]
 
-ghost use Rattle.std.specs.Prelude.{◌≡◌, ◌≤◌, length};
+ghost use Rattle.std.specs.Prelude.{◌≡◌, ◌==◌, ◌++◌, if◌then◌else◌, Some, codes, decimal, count_by};
 
 use std::io::Write;
 use std::{fmt, io};
@@ -15,7 +15,7 @@ pub const OLD_VERDICT: u8 = 77;
 
 // How many places of a buffer have its old content.
 pub fn kept<T: PartialEq>(buffer: &[T], old: &T) -> usize
-    ensures { result ≤ length buffer.now }
+    ensures { result ≡ count_by (λ x. T.eq x old.now) buffer.now }
 {
     buffer.iter().filter(|x| *x == old).count()
 }
@@ -28,6 +28,8 @@ pub struct Refusal {
 }
 
 impl fmt::Display for Refusal {
+    ghost output = { λ x. Some (codes "refused " ++ (decimal x.number ++ (codes " at " ++ decimal x.place))) };
+
     fn fmt<W: fmt::Write>(&self, f: &mut fmt::Formatter<W>) -> fmt::Result {
         write!(f, "refused {} at {}", self.number, self.place)
     }
@@ -48,6 +50,8 @@ pub fn checked<W: Write>(out: &mut W, answer: Checked) -> io::Result<()> {
 struct Size(u32);
 
 impl fmt::Display for Size {
+    ghost output = { λ x. Some (if x.0 == 65536 then codes "unbounded" else decimal x.0) };
+
     fn fmt<W: fmt::Write>(&self, f: &mut fmt::Formatter<W>) -> fmt::Result {
         match self.0 {
             65536 => write!(f, "unbounded"),

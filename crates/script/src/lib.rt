@@ -128,3 +128,45 @@ impl<'a> State<'a> {
         }
     }
 }
+
+#[cfg(test)]
+mod tests {
+    use super::*;
+    use std::test::Fail;
+
+    #[test]
+    fn lines_make_a_table(rt: HostRuntime) -> Result<(), Fail> {
+        let mut state = State::new(rt.alloc());
+        for text in [
+            "! best",
+            "= old",
+            "+ 3",
+            "= new",
+            "# all",
+            "1 1 0 4 40",
+            "3 0 0 1 0 2 1 1",
+            "+ 1",
+        ] {
+            let line = Line::read(rt.alloc(), text)?;
+            state.take(&line)?;
+        }
+        assert_eq!(rt; state.call, "best");
+        assert_eq!(rt; state.name, "new");
+        let want = [
+            1, 1, 0, 0, 4, 0, 40, 0, 3, 0, 0, 0, 1, 0, 0, 0, 3, 0, 1, 0, 2, 0, 0, 0, 0,
+        ];
+        assert_eq!(rt; state.table.as_slice(), want.as_slice());
+        Ok(())
+    }
+
+    #[test]
+    fn bytes_that_are_not_given_are_0(rt: HostRuntime) -> Result<(), Fail> {
+        let line = Line::read(rt.alloc(), "? 7 40 0 3 0 3")?;
+        assert!(rt; matches!(line, Line::Run(_)));
+        if let Line::Run(run) = line {
+            assert_eq!(rt; run.choice.as_slice(), [0, 3, 0, 3, 0, 0, 0].as_slice());
+            assert_eq!(rt; run.buffer, 40);
+        }
+        Ok(())
+    }
+}
