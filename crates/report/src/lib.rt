@@ -69,25 +69,33 @@ fn row<W: Write>(out: &mut W, letter: char, number: usize, sizes: &[u32]) -> io:
     writeln!(out)
 }
 
-// A row `  F n Total Post Pre Through` for each function of the table, as far as the sizes buffer goes.
-pub fn functions<W: Write>(out: &mut W, t: &[u8], sizes: &[u32]) -> io::Result<()> {
-    let Checked::Accepted(of) = table::check(t) else {
-        return Ok(());
-    };
-    for (number, four) in sizes.chunks_exact(4).take(of.functions).enumerate() {
-        row(out, 'F', number, four)?;
+// Rows for the fours of sizes behind the first so many, and for so many of them, as far as there are any.
+fn rows<W: Write>(
+    out: &mut W,
+    letter: char,
+    sizes: &[u32],
+    before: usize,
+    count: usize,
+) -> io::Result<()> {
+    let fours = sizes.chunks_exact(4).skip(before).take(count);
+    for (number, four) in fours.enumerate() {
+        row(out, letter, number, four)?;
     }
     Ok(())
 }
 
+// A row `  F n Total Post Pre Through` for each function of the table, as far as the sizes buffer goes.
+pub fn functions<W: Write>(out: &mut W, t: &[u8], sizes: &[u32]) -> io::Result<()> {
+    match table::check(t) {
+        Checked::Accepted(of) => rows(out, 'F', sizes, 0, of.functions),
+        Checked::Refused(..) => Ok(()),
+    }
+}
+
 // A row `  N n Total Post Pre Through` for each node of the table, as far as the sizes buffer goes behind the functions.
 pub fn nodes<W: Write>(out: &mut W, t: &[u8], sizes: &[u32]) -> io::Result<()> {
-    let Checked::Accepted(of) = table::check(t) else {
-        return Ok(());
-    };
-    let behind = sizes.chunks_exact(4).skip(of.functions);
-    for (number, four) in behind.take(of.nodes).enumerate() {
-        row(out, 'N', number, four)?;
+    match table::check(t) {
+        Checked::Accepted(of) => rows(out, 'N', sizes, of.functions, of.nodes),
+        Checked::Refused(..) => Ok(()),
     }
-    Ok(())
 }
