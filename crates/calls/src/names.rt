@@ -1,4 +1,5 @@
 // The names of the calls in a script.
+use std::error::Error;
 use std::fmt;
 use std::str::FromStr;
 
@@ -14,6 +15,7 @@ pub enum Call {
     Trials,
 }
 
+// A name that is none of these.
 #[derive(Clone, Copy, Debug)]
 pub struct NoSuchCall;
 
@@ -22,6 +24,8 @@ impl fmt::Display for NoSuchCall {
         write!(f, "no such call")
     }
 }
+
+impl Error for NoSuchCall {}
 
 impl FromStr for Call {
     type Err = NoSuchCall;

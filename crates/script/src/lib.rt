@@ -8,7 +8,8 @@
 //     2 0 0 0 0 512       512 plain nodes of function 0
 //     3 0 0 1 0 4 1 1     the edges 0-1, 1-2, 2-3, 3-4
 //
-// `+ N` adds N bytes, and a line that begins with `#` says nothing.
+// `+ N` adds N bytes of 0, and a line that begins with `#` says nothing. Numbers count modulo 65,536, and one that is
+// missing, or is no number, is 0.
 //
 // `? LENGTH BUFFER B0 B1 ..` is a run on the table: with a choice of LENGTH bytes, 0 where none is given, and a sizes
 // buffer of BUFFER numbers. Such as
@@ -53,18 +54,15 @@ pub struct Run {
 impl Run {
     fn read(alloc: Global, text: &str) -> Result<Run, AllocError> {
         let mut numbers = Numbers::of(text);
-        let length = numbers.next();
-        let buffer = usize::from(numbers.next());
-        let mut choice = Vec::new(alloc);
-        for _ in 0..length {
-            choice.push(numbers.byte())?;
-        }
+        let length = numbers.number();
+        let buffer = usize::from(numbers.number());
+        let choice = (0..length).map(|_| numbers.byte()).collect(alloc)?;
         Ok(Run { choice, buffer })
     }
 }
 
 impl<'a> Line<'a> {
-    #[tactic(auto, using(std::proofs::lemmas::Str::Pattern::strip_prefix_char))]
+    // What this line says, without its line feed.
     pub fn read(alloc: Global, text: &'a str) -> Result<Line<'a>, AllocError>
         ensures { IfOk result (ReadsAs text.now) }
     {
@@ -78,7 +76,7 @@ impl<'a> Line<'a> {
             return Ok(Line::Table(name.trim()));
         }
         if let Some(count) = text.strip_prefix('+') {
-            return Ok(Line::Bytes(Numbers::of(count).next()));
+            return Ok(Line::Bytes(Numbers::of(count).number()));
         }
         if let Some(run) = text.strip_prefix('?') {
             return Ok(Line::Run(Run::read(alloc, run)?));
@@ -96,6 +94,7 @@ pub struct State<'a> {
 }
 
 impl<'a> State<'a> {
+    // What stands before the first line.
     pub fn new(alloc: Global) -> State<'a>
         ensures { result.table.items ≡ [] }
     {

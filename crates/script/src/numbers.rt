@@ -15,7 +15,7 @@ impl<'a> Numbers<'a> {
     }
 
     // The next number, modulo 65,536: 0 where there is none.
-    pub fn next(&mut self) -> u16 {
+    pub fn number(&mut self) -> u16 {
         let word = self.words.next().unwrap_or("0");
         let number: u64 = word.parse().unwrap_or(0);
         (number % 65536) as u16
@@ -23,11 +23,11 @@ impl<'a> Numbers<'a> {
 
     // The next number, modulo 256.
     pub fn byte(&mut self) -> u8 {
-        (self.next() % 256) as u8
+        (self.number() % 256) as u8
     }
 
     // Whether the next number is given and not 0.
     pub fn flag(&mut self) -> bool {
-        self.next() != 0
+        self.number() != 0
     }
 }

@@ -5,7 +5,7 @@ ghost use Rattle.script.specs.Records.{field_at, record_at, records_before};
 use super::numbers::Numbers;
 use std::alloc::AllocError;
 
-// So many records that differ at most in a and b, which may go up by one from each to the next.
+// So many records in a row, which differ at most in a and b: these may go up by one from each to the next.
 #[derive(Clone, Copy, Debug)]
 pub struct Records {
     pub kind: u8,
@@ -24,10 +24,10 @@ impl Records {
         Records {
             kind: numbers.byte(),
             sort: numbers.byte(),
-            a: numbers.next(),
-            b: numbers.next(),
-            c: numbers.next(),
-            count: numbers.next().max(1),
+            a: numbers.number(),
+            b: numbers.number(),
+            c: numbers.number(),
+            count: numbers.number().max(1),
             a_rises: numbers.flag(),
             b_rises: numbers.flag(),
         }
