@@ -18,12 +18,7 @@ use tests::both_hold;
 
 // A trial for the search above: finds the sizes of a choice from zeros, or from those of a smaller one, and says whether it is safe. If it
 // is, its sizes take the place of the numbers started from; if not, these stay. The turns that this took are told.
-pub fn trial(
-    prepared: &Prepared<'_>,
-    choice: &[u8],
-    sizes: &mut [u32],
-    turns: &mut u32,
-) -> bool
+pub fn trial(prepared: &Prepared<'_>, choice: &[u8], sizes: &mut [u32], turns: &mut u32) -> bool
     requires { PreparedFor prepared.now × StartsFor prepared.now (choice_of choice.now) sizes.old }
     ensures { Tried prepared.now (choice_of choice.now) sizes.old sizes.new result }
 {

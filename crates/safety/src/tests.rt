@@ -27,8 +27,10 @@ fn edges_bounded(program: &Program<'_>, after: &[Size; 512], before: &[Size; 512
     ensures { Tells result (EdgesBounded (program_of program.now.table.now) (at (map value_of after.now)) (at (map value_of before.now))) }
 {
     for e in 0..program.of.edges {
-        let front = u32::from(after[program.edge_from(e)]);
-        let back = u32::from(before[program.edge_to(e)]);
+        let p = program.edge_from(e);
+        let n = program.edge_to(e);
+        let front = u32::from(after[p]);
+        let back = u32::from(before[n]);
         if (front == 65536) & (back == 65536) {
             return false;
         }
