@@ -1,5 +1,5 @@
 // The work that calls take. The counts are held by stored output, and not promised.
-use sizes::Answer;
+use crate::answers::done;
 use std::io;
 use std::io::Write;
 
@@ -10,9 +10,9 @@ pub fn show_passes<W: Write>(out: &mut W, t: &[u8], choice: &[u8]) -> io::Result
     // Room for the sizes of the largest table, so that none is refused for it.
     let mut numbers = [0u32; 2304];
     let mut passes: u32 = 0;
-    match sizes::counted(t, choice, &mut numbers, &mut passes) {
-        Answer::Done => writeln!(out, "{passes} passes"),
-        Answer::Refused(number, place) => report::refused(out, number, place),
+    match done(sizes::counted(t, choice, &mut numbers, &mut passes)) {
+        Ok(()) => writeln!(out, "{passes} passes"),
+        Err(refusal) => writeln!(out, "{refusal}"),
     }
 }
 
@@ -24,8 +24,8 @@ pub fn show_trials<W: Write>(out: &mut W, t: &[u8]) -> io::Result<()> {
     let mut sizes = [0u32; 2304];
     let mut trials: u32 = 0;
     let mut passes: u32 = 0;
-    match choice::counted(t, &mut verdicts, &mut sizes, &mut trials, &mut passes) {
-        Answer::Done => writeln!(out, "{trials} trials, {passes} passes"),
-        Answer::Refused(number, place) => report::refused(out, number, place),
+    match done(choice::counted(t, &mut verdicts, &mut sizes, &mut trials, &mut passes)) {
+        Ok(()) => writeln!(out, "{trials} trials, {passes} passes"),
+        Err(refusal) => writeln!(out, "{refusal}"),
     }
 }

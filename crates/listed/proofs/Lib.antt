@@ -2,6 +2,5 @@
 pub mod Bounds
 pub mod Worded
 -- How the promises come about.
-mod Numbers
 mod Listing
 mod Widest

@@ -1,31 +1,35 @@
 -- Rules in a list of words: what listing one after another comes to.
 use Prim.Native.Nat.{ℕ, zero, suc, ◌+◌, ◌-◌, ◌*◌, ◌/◌, ◌%◌, ◌<◌, ◌≤◌}
 use mathlib.Core.Path.{◌≡◌, refl, sym, ap, ap₂, ◌∙◌, subst}
-use mathlib.Core.Bool.{true, false}
+use mathlib.Core.Bool.{true}
 use mathlib.Core.List.{List}
 use mathlib.Core.Logic.{◌⊎◌, inl, inr}
 use native.Mathlib.Omega.{arith}
 use native.Mathlib.Decide.{ℕ_discrete, dec_lt}
 use lib.ListN.{length, set}
 use lib.Seq.{get_or-set_same, get_or-set_other}
+use Rattle.std.specs.Prelude.{None, Some}
 use Rattle.table.specs.Record.{edge_from, edge_to}
-use Rattle.table.specs.Answer.{Ready}
 use Rattle.table.specs.Program.{program_of}
 use Rattle.table.specs.declared.Counts.{Counts}
 use Rattle.table.proofs.Booleans.{not_both}
 use Rattle.table.proofs.Laws.{edge_which}
-use Rattle.table.proofs.Ready.{functions_are, nodes_are, edge_is}
+use Rattle.table.proofs.Ready.{edge_is}
 use Rattle.sync.specs.Words.{member}
-use Rattle.rule_order.specs.Orders.{Orders}
+use Rattle.listed.specs.Within.{AllWithin}
+use Rattle.rule_order.specs.AllOrdered.{AllOrdered}
+use Rattle.rule_order.specs.declared.Orders.{Orders}
 use Rattle.size.specs.Numbers.{at}
 use Rattle.rules.specs.System.{RuleOf, steps, takes, step_form, total_edge_form, target_form, form_of, start, step_on, end, total_node, total_edge, target_of}
 use Rattle.listed.specs.Listed.{given}
-use Rattle.rules.specs.Numbered.{count_of, on_at, form_at}
-use Rattle.listed.specs.Listed.{node_kind, node_number, edge_kind, function_kind, places_of, kind_at, number_at, place_at, Progress, done, up_to, blocks, Source, source, Says, Placed, Listed, Listing, Lists}
+use Rattle.rules.specs.Numbered.{count_of, on_at, form_at, Means, Gives}
+use Rattle.listed.specs.Listed.{node_kind, node_number, edge_kind, function_kind, places_of, kind_at, number_at, place_at, Progress, done, up_to, blocks, on_in, form_in, rule_of, Says, Placed, Listed, Listing, Lists}
 use Rattle.solver.specs.Words.{Named}
-use Rattle.rules.specs.declared.Known.{Known}
+use Rattle.sync.specs.declared.Known.{Known}
+use Rattle.listed.specs.declared.source.Source.{Source}
 use Rattle.listed.specs.declared.list.Group.{Group}
 use Rattle.listed.specs.declared.list.Group.TheVariants.{Node, Edge, Back, Function}
+use Rattle.rules.specs.declared.kinds.Rule.{Rule}
 use Rattle.rules.specs.declared.kinds.Kind.{Kind}
 use Rattle.rules.specs.declared.kinds.Kind.TheVariants.{Target, Start, Step, End, TotalNode, TotalEdge}
 use Rattle.rules.specs.declared.sums.Sum.TheVariants.{After, Before, Through}
@@ -56,12 +60,15 @@ function_low c f j h = go (j % 3)
     go (suc zero) = h
     go (suc (suc r)) = h
 
-module _ (c : Counts) (functions nodes edges : List ℕ) (o : Orders c functions nodes edges) where
-  pub place_low : (g : Group) (i : ℕ) → i < places_of c g → number_at functions nodes edges g i < count_of c (kind_at g i)
-  place_low Node i h = node_low c (at nodes (i / 8)) (7 - i % 8) (o.nodes_all.within (i / 8) (omega arith)) (omega arith)
-  place_low Edge i h = edge_low c (at edges (i / 3)) i (o.edges_all.within (i / 3) (omega arith))
-  place_low Back i h = o.edges_all.within i h
-  place_low Function i h = function_low c (at functions (i / 3)) i (o.functions_all.within (i / 3) (omega arith))
+-- so its number is
+pub number_low : (c : Counts) (orders : Orders) → AllWithin c orders → (g : Group) (i : ℕ) → i < places_of c g → number_at orders g i < count_of c (kind_at g i)
+number_low c orders o Node i h = node_low c (at orders.nodes (i / 8)) (7 - i % 8) (o.nodes_within (i / 8) (omega arith)) (omega arith)
+number_low c orders o Edge i h = edge_low c (at orders.edges (i / 3)) i (o.edges_within (i / 3) (omega arith))
+number_low c orders o Back i h = o.edges_within i h
+number_low c orders o Function i h = function_low c (at orders.functions (i / 3)) i (o.functions_within (i / 3) (omega arith))
+
+pub orders_within : (c : Counts) (orders : Orders) → AllOrdered c orders → AllWithin c orders
+orders_within c orders o = record { functions_within = o.functions_all.within; nodes_within = o.nodes_all.within; edges_within = o.edges_all.within }
 
 pub place_within : (g : Group) (lo hi q : ℕ) → lo + q < hi → place_at g lo hi q < hi
 place_within Node lo hi q h = h
@@ -77,9 +84,9 @@ place_turn Back lo hi i a b = (hi - (i + 1), omega arith, omega arith)
 place_turn Function lo hi i a b = (i - lo, omega arith, omega arith)
 
 -- and every rule has its place
-module _ (c : Counts) (functions nodes edges : List ℕ) (o : Orders c functions nodes edges) where
+module _ (c : Counts) (orders : Orders) (o : AllOrdered c orders) where
   abbrev At : Kind → ℕ → Type 0
-  At k j = (g : Group) × (i : ℕ) × (i < places_of c g) × (kind_at g i ≡ k) × (number_at functions nodes edges g i ≡ j)
+  At k j = (g : Group) × (i : ℕ) × (i < places_of c g) × (kind_at g i ≡ k) × (number_at orders g i ≡ j)
 
   node_place : (n j : ℕ) → n < c.nodes → j < 8 → At (node_kind j) (node_number n j)
   node_place n j h l =
@@ -87,7 +94,7 @@ module _ (c : Counts) (functions nodes edges : List ℕ) (o : Orders c functions
       let i = 8 * p.0 + (7 - j) in
       let a : i / 8 ≡ p.0 = omega arith in
       let b : 7 - i % 8 ≡ j = omega arith in
-      (Node, i, omega (arith, p.1), ap node_kind b, ap₂ node_number (ap (at nodes) a ∙ p.2) b)
+      (Node, i, omega (arith, p.1), ap node_kind b, ap₂ node_number (ap (at orders.nodes) a ∙ p.2) b)
 
   edge_place : (e j : ℕ) → e < c.edges → j < 3 → At (edge_kind j) e
   edge_place e j h l =
@@ -95,7 +102,7 @@ module _ (c : Counts) (functions nodes edges : List ℕ) (o : Orders c functions
       let i = 3 * p.0 + j in
       let a : i / 3 ≡ p.0 = omega arith in
       let b : i % 3 ≡ j = omega arith in
-      (Edge, i, omega (arith, p.1), ap edge_kind b, ap (at edges) a ∙ p.2)
+      (Edge, i, omega (arith, p.1), ap edge_kind b, ap (at orders.edges) a ∙ p.2)
 
   function_place : (f j : ℕ) → f < c.functions → j < 3 → At (function_kind j) f
   function_place f j h l =
@@ -103,7 +110,7 @@ module _ (c : Counts) (functions nodes edges : List ℕ) (o : Orders c functions
       let i = 3 * p.0 + j in
       let a : i / 3 ≡ p.0 = omega arith in
       let b : i % 3 ≡ j = omega arith in
-      (Function, i, omega (arith, p.1), ap function_kind b, ap (at functions) a ∙ p.2)
+      (Function, i, omega (arith, p.1), ap function_kind b, ap (at orders.functions) a ∙ p.2)
 
   rule_place : (k : Kind) (j : ℕ) → j < count_of c k → At k j
   rule_place Target j h =
@@ -132,37 +139,40 @@ module _ (x : Source) (rules : List ℕ) (count w : ℕ) (room : count < length 
       let q = p on in
       (q.0, omega (arith, q.1), rw (kept_at q.0 q.1) q.2)
 
-  module _ (k : Kind) (i : ℕ) (low : i < count_of x.known.of k) (on : on_at x.table x.choice x.known k i ≡ true) (says : Says w (form_at x.table k i)) where
-    new_at : at (set rules count w) count ≡ w
-    new_at = get_or-set_same rules count w 0 room
+  new_at : at (set rules count w) count ≡ w
+  new_at = get_or-set_same rules count w 0 room
 
+  module _ (k : Kind) (i : ℕ) (low : i < count_of x.known.now.program.of k) (on : on_in x k i ≡ true) (says : Says w (form_in x k i)) where
     listed_add : {p : Progress} → Listed x p rules count → Listed x p (set rules count w) (count + 1)
     listed_add {p} d = record { each = λ j h. go j h (ℕ_discrete j count); all = λ g i h. placed_kept g i (d.all g i h) }
       where
-        go : (j : ℕ) → j < count + 1 → Dec (j ≡ count) → (k : Kind) × (i : ℕ) × (i < count_of x.known.of k) × (on_at x.table x.choice x.known k i ≡ true) × Says (at (set rules count w) j) (form_at x.table k i)
+        go : (j : ℕ) → j < count + 1 → Dec (j ≡ count) → (k : Kind) × (i : ℕ) × (i < count_of x.known.now.program.of k) × (on_in x k i ≡ true) × Says (at (set rules count w) j) (form_in x k i)
         go j h (yes e) = (k, i, low, on, rw (e, new_at) says)
         go j h (no e) =
             let l : j < count = omega (arith, e) in
             let q = d.each j l in
             (q.0, q.1, q.2, q.3, rw (kept_at j l) q.4)
 
-    pub listing_add : {p : Progress} {g : Group} {lo hi q : ℕ} → Listing x p g lo hi q rules count → k ≡ kind_at g (place_at g lo hi q) → i ≡ number_at x.functions x.nodes x.edges g (place_at g lo hi q) → Listing x p g lo hi (q + 1) (set rules count w) (count + 1)
-    listing_add {p} {g} {lo} {hi} {q} d k-is i-is = record { listed = listed_add d.listed; some = λ r h. go r h (ℕ_discrete r q) }
-      where
-        go : (r : ℕ) → r < q + 1 → Dec (r ≡ q) → Placed x (set rules count w) (count + 1) g (place_at g lo hi r)
-        go r h (yes e) = rw e (λ on. (count, omega arith, rw (new_at, ← k-is, ← i-is) says))
-        go r h (no e) = placed_kept g (place_at g lo hi r) (d.some r (omega (arith, e)))
+  pub listing_add : {p : Progress} {g : Group} {lo hi q i : ℕ} {r : Rule} → Listing x p g lo hi q rules count → i ≡ place_at g lo hi q → i < places_of x.known.now.program.of g → Gives (on_in x (kind_at g i) (number_at x.orders.now g i)) (form_in x (kind_at g i) (number_at x.orders.now g i)) (Some r) → rule_of w ≡ r → Listing x p g lo hi (q + 1) (set rules count w) (count + 1)
+  listing_add {p} {g} {lo} {hi} {q} {i} {r} d i-is low gives w-is = record {
+    listed = listed_add (kind_at g i) (number_at x.orders.now g i) (number_low x.known.now.program.of x.orders.now x.all_within g i low) gives.0 says d.listed;
+    some = λ m h. go m h (ℕ_discrete m q);
+  }
+    where
+      says : Says w (form_in x (kind_at g i) (number_at x.orders.now g i))
+      says = subst (Means (form_in x (kind_at g i) (number_at x.orders.now g i))) (sym w-is) gives.1
+
+      go : (m : ℕ) → m < q + 1 → Dec (m ≡ q) → Placed x (set rules count w) (count + 1) g (place_at g lo hi m)
+      go m h (yes e) = rw (e, ← i-is) (λ on. (count, omega arith, rw new_at says))
+      go m h (no e) = placed_kept g (place_at g lo hi m) (d.some m (omega (arith, e)))
 
 module _ (x : Source) {rules : List ℕ} {count : ℕ} {p : Progress} {g : Group} {lo hi : ℕ} where
-  pub listing_first : Listed x p rules count → Listing x p g lo hi 0 rules count
-  listing_first d = record { listed = d; some = λ r h. absurd (omega arith) }
-
-  pub listing_skip : {q : ℕ} → Listing x p g lo hi q rules count → on_at x.table x.choice x.known (kind_at g (place_at g lo hi q)) (number_at x.functions x.nodes x.edges g (place_at g lo hi q)) ≡ false → Listing x p g lo hi (q + 1) rules count
-  listing_skip {q} d off = record { listed = d.listed; some = λ r h. go r h (ℕ_discrete r q) }
+  pub listing_skip : {q i : ℕ} → Listing x p g lo hi q rules count → i ≡ place_at g lo hi q → Gives (on_in x (kind_at g i) (number_at x.orders.now g i)) (form_in x (kind_at g i) (number_at x.orders.now g i)) None → Listing x p g lo hi (q + 1) rules count
+  listing_skip {q} {i} d i-is off = record { listed = d.listed; some = λ m h. go m h (ℕ_discrete m q) }
     where
-      go : (r : ℕ) → r < q + 1 → Dec (r ≡ q) → Placed x rules count g (place_at g lo hi r)
-      go r h (yes e) = rw e (λ on. not_both _ on off)
-      go r h (no e) = d.some r (omega (arith, e))
+      go : (m : ℕ) → m < q + 1 → Dec (m ≡ q) → Placed x rules count g (place_at g lo hi m)
+      go m h (yes e) = rw (e, ← i-is) (λ on. not_both _ on off)
+      go m h (no e) = d.some m (omega (arith, e))
 
 within_up_to : (p : Progress) (g : Group) (hi : ℕ) (h : Group) (i : ℕ) → i < done (up_to p g hi) h → (i < done p h) ⊎ ((h ≡ g) × (i < hi))
 within_up_to p Node hi Node i l = inr (refl, l)
@@ -207,51 +217,57 @@ listed_none x rules = record { each = λ j h. absurd (omega arith); all = λ g i
 
 -- ---- the rules of the system
 
-module _ (t choice : List ℕ) (known : Known) (ready : Ready t known.of) where
-  rule_of : (k : Kind) (i : ℕ) → i < count_of known.of k → on_at t choice known k i ≡ true → (r : RuleOf (given t choice known)) × (form_of r ≡ form_at t k i)
-  rule_of Target i h b = (target_of (i / 4) (i % 4) (omega (arith, nodes_are t known.of ready)) (omega arith) b, refl)
-  rule_of (Start s) n h b = (start s n (omega (arith, nodes_are t known.of ready)) b, refl)
-  rule_of (Step s) e h b = (step_on s (edge_from t e) (edge_to t e) (edge_is t known.of ready e h) b, refl)
-  rule_of (End s) f h b = (end s f (omega (arith, functions_are t known.of ready)) b, refl)
-  rule_of TotalNode n h b = (total_node n (omega (arith, nodes_are t known.of ready)), refl)
-  rule_of TotalEdge e h b = (total_edge (edge_from t e) (edge_to t e) (edge_is t known.of ready e h), refl)
+module _ (choice : List ℕ) (known : Known) where
+  abbrev t : List ℕ
+  t = known.program.table.now
 
-  rule_number : (r : RuleOf (given t choice known)) → (k : Kind) × (i : ℕ) × (i < count_of known.of k) × (on_at t choice known k i ≡ true) × (form_at t k i ≡ form_of r)
-  rule_number (start s n h b) = (Start s, n, omega (arith, nodes_are t known.of ready), b, refl)
+  abbrev of : Counts
+  of = known.program.of
+
+  rule_at : (k : Kind) (i : ℕ) → i < count_of of k → on_at choice known k i ≡ true → (r : RuleOf (given choice known)) × (form_of r ≡ form_at t k i)
+  rule_at Target i h b = (target_of (i / 4) (i % 4) (omega arith) (omega arith) b, refl)
+  rule_at (Start s) n h b = (start s n (omega arith) b, refl)
+  rule_at (Step s) e h b = (step_on s (edge_from t e) (edge_to t e) (edge_is t of known.program.ready e h) b, refl)
+  rule_at (End s) f h b = (end s f (omega arith) b, refl)
+  rule_at TotalNode n h b = (total_node n (omega arith), refl)
+  rule_at TotalEdge e h b = (total_edge (edge_from t e) (edge_to t e) (edge_is t of known.program.ready e h), refl)
+
+  rule_number : (r : RuleOf (given choice known)) → (k : Kind) × (i : ℕ) × (i < count_of of k) × (on_at choice known k i ≡ true) × (form_at t k i ≡ form_of r)
+  rule_number (start s n h b) = (Start s, n, omega arith, b, refl)
   rule_number (step_on s p n e b) =
       let x = edge_which t p n e in
-      (Step s, x.0, omega (arith, ready.counts_are.edges_are, x.1), ap₂ (steps (member known.synchronising) (member known.reached) s) x.2 x.3 ∙ b, ap₂ (step_form (program_of t) s) x.2 x.3)
-  rule_number (end s f h b) = (End s, f, omega (arith, functions_are t known.of ready), b, refl)
-  rule_number (total_node n h) = (TotalNode, n, omega (arith, nodes_are t known.of ready), refl, refl)
+      (Step s, x.0, omega (arith, known.program.ready.counts_are.edges_are, x.1), ap₂ (steps (member known.synchronising) (member known.reached) s) x.2 x.3 ∙ b, ap₂ (step_form (program_of t) s) x.2 x.3)
+  rule_number (end s f h b) = (End s, f, omega arith, b, refl)
+  rule_number (total_node n h) = (TotalNode, n, omega arith, refl, refl)
   rule_number (total_edge p n e) =
       let x = edge_which t p n e in
-      (TotalEdge, x.0, omega (arith, ready.counts_are.edges_are, x.1), refl, ap₂ (total_edge_form (program_of t)) x.2 x.3)
+      (TotalEdge, x.0, omega (arith, known.program.ready.counts_are.edges_are, x.1), refl, ap₂ (total_edge_form (program_of t)) x.2 x.3)
   rule_number (target_of n k h l b) =
       let i = 4 * n + k in
       let a : i / 4 ≡ n = omega arith in
       let c : i % 4 ≡ k = omega arith in
-      (Target, i, omega (arith, nodes_are t known.of ready), ap₂ (takes (program_of t) (at choice)) a c ∙ b, ap₂ (target_form (program_of t)) a c)
+      (Target, i, omega arith, ap₂ (takes (program_of t) (at choice)) a c ∙ b, ap₂ (target_form (program_of t)) a c)
 
-  module _ (functions nodes edges : List ℕ) (o : Orders known.of functions nodes edges) {rules : List ℕ} {count : ℕ} (d : Listed (source t choice known functions nodes edges) (blocks known.of.nodes known.of.edges known.of.functions) rules count) where
-    all_done : (g : Group) (i : ℕ) → i < places_of known.of g → Placed (source t choice known functions nodes edges) rules count g i
-    all_done Node i h = d.all Node i h
-    all_done Edge i h = d.all Edge i h
-    all_done Back i h = d.all Back i h
-    all_done Function i h = d.all Function i h
+module _ (x : Source) (o : AllOrdered x.known.now.program.of x.orders.now) {rules : List ℕ} {count : ℕ} (d : Listed x (blocks x.known.now.program.of.nodes x.known.now.program.of.edges x.known.now.program.of.functions) rules count) where
+  all_done : (g : Group) (i : ℕ) → i < places_of x.known.now.program.of g → Placed x rules count g i
+  all_done Node i h = d.all Node i h
+  all_done Edge i h = d.all Edge i h
+  all_done Back i h = d.all Back i h
+  all_done Function i h = d.all Function i h
 
-    pub all_listed : Lists (given t choice known) rules count
-    all_listed = record {
-      each = λ j h. let q = d.each j h in let r = rule_of q.0 q.1 q.2 q.3 in (r.0, rw r.1 q.4);
-      all = λ r.
-          let n = rule_number r in
-          let p = rule_place known.of functions nodes edges o n.0 n.1 n.2 in
-          let on : on_at t choice known (kind_at p.0 p.1) (number_at functions nodes edges p.0 p.1) ≡ true = ap₂ (on_at t choice known) p.3 p.4 ∙ n.3 in
-          let q = all_done p.0 p.1 p.2 on in
-          (q.0, q.1, subst (Says (at rules q.0)) (ap₂ (form_at t) p.3 p.4 ∙ n.4) q.2);
-    }
+  pub all_listed : Lists (given x.choice.now x.known.now) rules count
+  all_listed = record {
+    each = λ j h. let q = d.each j h in let r = rule_at x.choice.now x.known.now q.0 q.1 q.2 q.3 in (r.0, rw r.1 q.4);
+    all = λ r.
+        let n = rule_number x.choice.now x.known.now r in
+        let p = rule_place x.known.now.program.of x.orders.now o n.0 n.1 n.2 in
+        let on : on_in x (kind_at p.0 p.1) (number_at x.orders.now p.0 p.1) ≡ true = ap₂ (on_in x) p.3 p.4 ∙ n.3 in
+        let q = all_done p.0 p.1 p.2 on in
+        (q.0, q.1, subst (Says (at rules q.0)) (ap₂ (form_in x) p.3 p.4 ∙ n.4) q.2);
+  }
 
-    pub all_named : Named rules count
-    all_named = record {
-      heads = λ j h. (d.each j h).4.head_low;
-      parts = λ j h. (d.each j h).4.part_low;
-    }
+  pub all_named : Named rules count
+  all_named = record {
+    heads = λ j h. (d.each j h).4.head_low;
+    parts = λ j h. (d.each j h).4.part_low;
+  }

@@ -8,12 +8,10 @@ use native.Mathlib.Decide.{ℕ_discrete}
 use lib.ListN.{length, set, take, get_or-replicate}
 use lib.Seq.{length-take-le, get_or-take, get_or-set_same, get_or-set_other}
 use borrow.Author.Tests.{lt-ltb, le-ltb}
-use Rattle.table.specs.Answer.{Ready}
 use Rattle.table.specs.Program.{Program, program_of}
-use Rattle.table.specs.declared.Counts.{Counts}
+use Rattle.program.specs.declared.Program.{Program as Read}
 use Rattle.table.proofs.Booleans.{not_both}
 use Rattle.table.proofs.Laws.{well_formed}
-use Rattle.table.proofs.Ready.{few_functions, few_nodes, functions_are, nodes_are}
 use Rattle.size.specs.Numbers.{at}
 use Rattle.rules.specs.Choice.{unguarded}
 use Rattle.rules.specs.Rules.{total, through}
@@ -21,7 +19,7 @@ use Rattle.rules.specs.System.{Form, RuleOf, kind_for, to, takes, target_form, f
 use Rattle.rules.specs.Entries.{offset}
 use Rattle.listed.specs.Listed.{given, everywhere, in_force, Says, Lists, Widest}
 use Rattle.solver.specs.Words.{head_of, Named}
-use Rattle.rules.specs.declared.Known.{Known}
+use Rattle.sync.specs.declared.Known.{Known}
 use Rattle.rules.specs.declared.sums.Sum.{Sum}
 use Rattle.rules.specs.declared.sums.Sum.TheVariants.{After, Before, Through}
 use Rattle.rules.proofs.Bounds.{kind_low}
@@ -33,26 +31,26 @@ use Rattle.rules.proofs.Taking.{Takes, of_call, of_unguarded, of_merged, takes_w
 head_is_at : (w : ℕ) {f : Form} → Says w f → head_of w ≡ place f.head
 head_is_at w s = sym (place_entry (head_of w)) ∙ ap place (sym s.head_is)
 
-module _ (t choice : List ℕ) (c : Counts) (w : ℕ) where
-  pub force_function : head_of w < 4 * c.functions → in_force t choice c w ≡ true
+module _ (choice : List ℕ) (p : Read) (w : ℕ) where
+  pub force_function : head_of w < 4 * p.of.functions → in_force choice p w ≡ true
   unfolding in_force
-  force_function h = rw (lt-ltb (head_of w) (4 * c.functions) h) refl
+  force_function h = rw (lt-ltb (head_of w) (4 * p.of.functions) h) refl
 
-  force_node : 4 * c.functions ≤ head_of w → head_of w < 4 * (c.functions + c.nodes) → in_force t choice c w ≡ takes (program_of t) (at choice) (head_of w / 4 - c.functions) (head_of w % 4)
+  force_node : 4 * p.of.functions ≤ head_of w → head_of w < 4 * (p.of.functions + p.of.nodes) → in_force choice p w ≡ takes (program_of p.table.now) (at choice) (head_of w / 4 - p.of.functions) (head_of w % 4)
   unfolding in_force
-  force_node l h = rw (le-ltb (head_of w) (4 * c.functions) l, lt-ltb (head_of w) (4 * (c.functions + c.nodes)) h) refl
+  force_node l h = rw (le-ltb (head_of w) (4 * p.of.functions) l, lt-ltb (head_of w) (4 * (p.of.functions + p.of.nodes)) h) refl
 
-  pub force_sum : 4 * (c.functions + c.nodes) ≤ head_of w → in_force t choice c w ≡ true
+  pub force_sum : 4 * (p.of.functions + p.of.nodes) ≤ head_of w → in_force choice p w ≡ true
   unfolding in_force
   force_sum h =
-      let l : 4 * c.functions ≤ head_of w = omega arith in
-      rw (le-ltb (head_of w) (4 * c.functions) l, le-ltb (head_of w) (4 * (c.functions + c.nodes)) h) refl
+      let l : 4 * p.of.functions ≤ head_of w = omega arith in
+      rw (le-ltb (head_of w) (4 * p.of.functions) l, le-ltb (head_of w) (4 * (p.of.functions + p.of.nodes)) h) refl
 
-  pub force_size : (n k : ℕ) → n < c.nodes → k ≤ through → head_of w ≡ 4 * (c.functions + n) + k → in_force t choice c w ≡ takes (program_of t) (at choice) n k
+  pub force_size : (n k : ℕ) → n < p.of.nodes → k ≤ through → head_of w ≡ 4 * (p.of.functions + n) + k → in_force choice p w ≡ takes (program_of p.table.now) (at choice) n k
   force_size n k h l e =
-      let a : head_of w / 4 - c.functions ≡ n = omega arith in
+      let a : head_of w / 4 - p.of.functions ≡ n = omega arith in
       let b : head_of w % 4 ≡ k = omega arith in
-      force_node (omega arith) (omega arith) ∙ ap₂ (takes (program_of t) (at choice)) a b
+      force_node (omega arith) (omega arith) ∙ ap₂ (takes (program_of p.table.now) (at choice)) a b
 
 -- ---- the rules of a choice and of the widest one
 
@@ -72,20 +70,23 @@ takes_everywhere g choice n k h b = go (takes_which g choice n k b)
     go (of_unguarded s m e) = takes_unguarded g (at everywhere) n k s high
     go (of_merged s m l e) = takes_unguarded g (at everywhere) n k s high
 
-module _ (t choice : List ℕ) (known : Known) (ready : Ready t known.of) where
+module _ (choice : List ℕ) (known : Known) where
+  abbrev g : Program
+  g = program_of known.program.table.now
+
   abbrev Own : Type 0
-  Own = RuleOf (given t choice known)
+  Own = RuleOf (given choice known)
 
   abbrev Wide : Type 0
-  Wide = RuleOf (given t everywhere known)
+  Wide = RuleOf (given everywhere known)
 
   -- whether a size of a node is in force
-  of_node : (n k w : ℕ) → n < (program_of t).nodes → k ≤ through → Says w (target_form (program_of t) n k) → in_force t choice known.of w ≡ takes (program_of t) (at choice) n k
+  of_node : (n k w : ℕ) → n < g.nodes → k ≤ through → Says w (target_form g n k) → in_force choice known.program w ≡ takes g (at choice) n k
   of_node n k w h l m =
-      force_size t choice known.of w n k (omega (arith, nodes_are t known.of ready)) l (omega (arith, head_is_at w m, functions_are t known.of ready))
+      force_size choice known.program w n k (omega arith) l (omega (arith, head_is_at w m))
 
   -- a rule of the widest choice that is in force is one of the choice
-  own : (r : Wide) (w : ℕ) → Says w (form_of r) → in_force t choice known.of w ≡ true → (q : Own) × Says w (form_of q)
+  own : (r : Wide) (w : ℕ) → Says w (form_of r) → in_force choice known.program w ≡ true → (q : Own) × Says w (form_of q)
   own (start s n h b) w m f = (start s n h b, m)
   own (step_on s p n e b) w m f = (step_on s p n e b, m)
   own (end s x h b) w m f = (end s x h b, m)
@@ -101,24 +102,24 @@ module _ (t choice : List ℕ) (known : Known) (ready : Ready t known.of) where
   widened (total_node n h) = (total_node n h, refl)
   widened (total_edge p n e) = (total_edge p n e, refl)
   widened (target_of n k h l b) =
-      let low : n < 512 = omega (arith, nodes_are t known.of ready, few_nodes t known.of ready) in
-      (target_of n k h l (takes_everywhere (program_of t) (at choice) n k low b), refl)
+      let low : n < 512 = omega arith in
+      (target_of n k h l (takes_everywhere g (at choice) n k low b), refl)
 
   -- and is in force: its head is a sum, a size of a function, or one of a node that rests on its target
-  of_sum : (s : Sum) (n w : ℕ) → head_of w ≡ offset s + n → in_force t choice known.of w ≡ true
-  of_sum s n w e = force_sum t choice known.of w (omega (arith, sums_high s, few_functions t known.of ready, few_nodes t known.of ready))
+  of_sum : (s : Sum) (n w : ℕ) → head_of w ≡ offset s + n → in_force choice known.program w ≡ true
+  of_sum s n w e = force_sum choice known.program w (omega (arith, sums_high s))
 
-  of_function : (f k w : ℕ) → f < (program_of t).functions → k ≤ through → head_of w ≡ 4 * f + k → in_force t choice known.of w ≡ true
-  of_function f k w h l e = force_function t choice known.of w (omega (arith, functions_are t known.of ready))
+  of_function : (f k w : ℕ) → f < g.functions → k ≤ through → head_of w ≡ 4 * f + k → in_force choice known.program w ≡ true
+  of_function f k w h l e = force_function choice known.program w (omega arith)
 
-  in_force_lem : (r : Own) (w : ℕ) → Says w (form_of r) → in_force t choice known.of w ≡ true
+  in_force_lem : (r : Own) (w : ℕ) → Says w (form_of r) → in_force choice known.program w ≡ true
   in_force_lem (start s n h b) w m = of_sum s n w (head_is_at w m)
   in_force_lem (step_on s p n e b) w m = of_sum s (to s p n) w (head_is_at w m)
   in_force_lem (end s f h b) w m = of_function f (kind_for s) w h (kind_low s) (head_is_at w m)
-  in_force_lem (total_node n h) w m = of_function ((program_of t).owner n) total w ((well_formed t ready.accepted_is).owner_exists n h) (omega arith) (head_is_at w m)
+  in_force_lem (total_node n h) w m = of_function (g.owner n) total w ((well_formed known.program.table.now known.program.ready.accepted_is).owner_exists n h) (omega arith) (head_is_at w m)
   in_force_lem (total_edge p n e) w m =
-      let f = well_formed t ready.accepted_is in
-      of_function ((program_of t).owner n) total w (f.owner_exists n (f.edge_together p n e).to_exists) (omega arith) (head_is_at w m)
+      let f = well_formed known.program.table.now known.program.ready.accepted_is in
+      of_function (g.owner n) total w (f.owner_exists n (f.edge_together p n e).to_exists) (omega arith) (head_is_at w m)
   in_force_lem (target_of n k h l b) w m = of_node n k w h l m ∙ b
 
 -- ---- the words of a list that pass a test, one after another
@@ -177,25 +178,25 @@ module _ {test : ℕ → Bool} {all : List ℕ} {i : ℕ} {rules : List ℕ} {co
     parts = λ m h. let q = d.each m h in rw q.3 (n.parts q.0 q.1);
   }
 
-pub kept_lists : (t choice : List ℕ) (known : Known) → Ready t known.of → {all : List ℕ} {i : ℕ} {rules : List ℕ} {count : ℕ} → Lists (given t everywhere known) all i → Kept (in_force t choice known.of) all i rules count → Lists (given t choice known) rules count
-kept_lists t choice known ready {all} {i} {rules} {count} l d = record {
+pub kept_lists : (choice : List ℕ) (known : Known) {all : List ℕ} {i : ℕ} {rules : List ℕ} {count : ℕ} → Lists (given everywhere known) all i → Kept (in_force choice known.program) all i rules count → Lists (given choice known) rules count
+kept_lists choice known {all} {i} {rules} {count} l d = record {
   each = λ m h.
       let q = d.each m h in
       let r = l.each q.0 q.1 in
-      let o = own t choice known ready r.0 (at all q.0) r.1 q.2 in
+      let o = own choice known r.0 (at all q.0) r.1 q.2 in
       (o.0, rw q.3 o.1);
   all = λ r.
-      let v = widened t choice known ready r in
+      let v = widened choice known r in
       let j = l.all v.0 in
       let s : Says (at all j.0) (form_of r) = subst (Says (at all j.0)) v.1 j.2 in
-      let m = d.every j.0 j.1 (in_force_lem t choice known ready r (at all j.0) s) in
+      let m = d.every j.0 j.1 (in_force_lem choice known r (at all j.0) s) in
       (m.0, m.1, rw m.2 s);
 }
 
 -- ---- the words of a list up to its count
 
-pub widest_taken : (t : List ℕ) (known : Known) (rules : List ℕ) (count : ℕ) → count ≤ length rules → count ≤ 8384 → Named rules count → Lists (given t everywhere known) rules count → Widest t known (take count rules)
-widest_taken t known rules count h f n l = record {
+pub widest_taken : (known : Known) (rules : List ℕ) (count : ℕ) → count ≤ length rules → count ≤ 8384 → Named rules count → Lists (given everywhere known) rules count → Widest known (take count rules)
+widest_taken known rules count h f n l = record {
   few = rw long f;
   named = rw long (record { heads = λ j b. rw (at_taken j b) (n.heads j b); parts = λ j b. rw (at_taken j b) (n.parts j b) });
   lists = rw long (record {

@@ -15,7 +15,7 @@ use Rattle.solver.proofs.Rises.{der_less}
 use Rattle.rules.specs.System.{Entry, size, along, Form, Given, RuleOf, DerOf, forms_of, Solved, Derived}
 use Rattle.rules.specs.Entries.{offset, entry_at}
 use Rattle.rules.specs.Numbered.{other_entries}
-use Rattle.listed.specs.Listed.{Says, Lists}
+use Rattle.listed.specs.Listed.{size_at, Says, Lists}
 use Rattle.rules.specs.declared.sums.Sum.{Sum}
 use Rattle.rules.specs.declared.sums.Sum.TheVariants.{After, Before, Through}
 use Rattle.rules.proofs.Entries.{entry_size, entry_after, entry_before, entry_through, entry_along}
@@ -45,7 +45,7 @@ module _ (v : ℕ → ℕ) where
   says_gives : (w : ℕ) {f : Form} → Says w f → gives (seen v) f ≡ gives v (word_form w)
   says_gives w s = rw (s.base_is, s.body_is) (go (dec_lt (other_of w) 2304))
     where
-      go : Dec (other_of w < 2304) → cap (base_of w + (seen v (entry_at (part_of w)) + sum_of (seen v) (other_entries (other_of w)))) ≡ cap (base_of w + (v (part_of w) + sum_of v (others (other_of w))))
+      go : Dec (other_of w < 2304) → cap (base_of w + (seen v (entry_at (part_of w)) + sum_of (seen v) (other_entries (size_at (other_of w))))) ≡ cap (base_of w + (v (part_of w) + sum_of v (others (other_of w))))
       go (yes a) = rw (lt-ltb (other_of w) 2304 a) (omega (arith, seen_at (part_of w) s.part_low, seen_size (other_of w) a))
       go (no a) = rw (le-ltb (other_of w) 2304 (omega arith)) (omega (arith, seen_at (part_of w) s.part_low))
 

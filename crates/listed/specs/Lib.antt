@@ -1,2 +1,3 @@
 -- What only helps proofs.
+pub mod Within
 pub mod Listed

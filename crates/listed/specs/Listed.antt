@@ -1,23 +1,27 @@
 -- The rules of the finite system as words in a list, as the code keeps them. Helps proofs only.
-use Rattle.std.specs.Prelude.{ℕ, zero, suc, ◌+◌, ◌-◌, ◌*◌, ◌/◌, ◌%◌, ◌<◌, ◌≤◌, ◌≡◌, Bool, true, cond, List, ltb, length, replicate}
+use Rattle.std.specs.Prelude.{ℕ, zero, suc, ◌+◌, ◌-◌, ◌*◌, ◌/◌, ◌%◌, ◌<◌, ◌≤◌, ◌≡◌, Bool, true, cond, List, ltb, length, replicate, Option, None, Some}
 use Rattle.table.specs.Program.{program_of}
 use Rattle.table.specs.declared.Counts.{Counts}
+use Rattle.program.specs.declared.Program.{Program}
 use Rattle.sync.specs.Words.{member}
 use Rattle.size.specs.Numbers.{at}
 use Rattle.solver.specs.Words.{head_of, part_of, other_of, base_of, Named}
 use Rattle.rules.specs.Choice.{unguarded}
 use Rattle.rules.specs.System.{Form, Given, RuleOf, takes, form_of}
 use Rattle.rules.specs.Numbered.{count_of, on_at, form_at, Means}
-use Rattle.rules.specs.declared.Known.{Known}
+use Rattle.sync.specs.declared.Known.{Known}
+use Rattle.rule_order.specs.declared.Orders.{Orders}
+use Rattle.rules.specs.declared.kinds.Rule.{Rule}
 use Rattle.rules.specs.declared.kinds.Kind.{Kind}
 use Rattle.rules.specs.declared.kinds.Kind.TheVariants.{Target, Start, Step, End, TotalNode, TotalEdge}
 use Rattle.rules.specs.declared.sums.Sum.TheVariants.{After, Before, Through}
+use Rattle.listed.specs.declared.source.Source.{Source}
 use Rattle.listed.specs.declared.list.Group.{Group}
 use Rattle.listed.specs.declared.list.Group.TheVariants.{Node, Edge, Back, Function}
 
 -- What the system rests on, from what the code is given.
-abbrev pub given : List ℕ → List ℕ → Known → Given
-given t choice known = record { program = program_of t; synchronising = member known.synchronising; reached = member known.reached; choice = at choice }
+abbrev pub given : List ℕ → Known → Given
+given choice known = record { program = program_of known.program.table.now; synchronising = member known.synchronising; reached = member known.reached; choice = at choice }
 
 -- unguarded at every node: no choice has rules that this one has not
 abbrev pub everywhere : List ℕ
@@ -67,11 +71,11 @@ kind_at Edge i = edge_kind (i % 3)
 kind_at Back i = Step Before
 kind_at Function i = function_kind (i % 3)
 
-abbrev pub number_at : List ℕ → List ℕ → List ℕ → Group → ℕ → ℕ
-number_at functions nodes edges Node i = node_number (at nodes (i / 8)) (7 - i % 8)
-number_at functions nodes edges Edge i = at edges (i / 3)
-number_at functions nodes edges Back i = at edges i
-number_at functions nodes edges Function i = at functions (i / 3)
+abbrev pub number_at : Orders → Group → ℕ → ℕ
+number_at o Node i = node_number (at o.nodes (i / 8)) (7 - i % 8)
+number_at o Edge i = at o.edges (i / 3)
+number_at o Back i = at o.edges i
+number_at o Function i = at o.functions (i / 3)
 
 -- From lo to hi the q-th place, counted from the last one where rules run against the edges.
 abbrev pub place_at : Group → ℕ → ℕ → ℕ → ℕ
@@ -81,11 +85,18 @@ place_at Back lo hi q = hi - (q + 1)
 place_at Function lo hi q = lo + q
 
 -- Whether a choice has the rule that a word says: only the sizes of nodes rest on it.
-unfoldable pub in_force : List ℕ → List ℕ → Counts → ℕ → Bool
-in_force t choice c w = cond (ltb (head_of w) (4 * c.functions)) true (cond (ltb (head_of w) (4 * (c.functions + c.nodes))) (takes (program_of t) (at choice) (head_of w / 4 - c.functions) (head_of w % 4)) true)
+unfoldable pub in_force : List ℕ → Program → ℕ → Bool
+in_force choice p w = cond (ltb (head_of w) (4 * p.of.functions)) true (cond (ltb (head_of w) (4 * (p.of.functions + p.of.nodes))) (takes (program_of p.table.now) (at choice) (head_of w / 4 - p.of.functions) (head_of w % 4)) true)
+
+-- the rule that a word says; numbers past the sizes stand for no other entry
+abbrev pub size_at : ℕ → Option ℕ
+size_at z = cond (ltb z 2304) (Some z) None
+
+abbrev pub rule_of : ℕ → Rule
+rule_of w = record { head = head_of w; base = base_of w; part = part_of w; other = size_at (other_of w) }
 
 abbrev pub Says : ℕ → Form → Type 0
-Says w f = Means f (head_of w) (base_of w) (part_of w) (other_of w)
+Says w f = Means f (rule_of w)
 
 -- how many places of each group are done
 pub record Progress : Type 0 where
@@ -110,25 +121,20 @@ up_to p Function hi = record { node = p.node; edge = p.edge; back = p.back; func
 abbrev pub blocks : ℕ → ℕ → ℕ → Progress
 blocks a b f = record { node = 8 * a; edge = 3 * b; back = b; function = 3 * f }
 
--- What rules are listed from, and in which orders.
-pub record Source : Type 0 where
-  pub table : List ℕ
-  pub choice : List ℕ
-  pub known : Known
-  pub functions : List ℕ
-  pub nodes : List ℕ
-  pub edges : List ℕ
+-- Which rules there are where rules are listed from, and what they say.
+abbrev pub on_in : Source → Kind → ℕ → Bool
+on_in x k i = on_at x.choice.now x.known.now k i
 
-abbrev pub source : List ℕ → List ℕ → Known → List ℕ → List ℕ → List ℕ → Source
-source t choice known functions nodes edges = record { table = t; choice = choice; known = known; functions = functions; nodes = nodes; edges = edges }
+abbrev pub form_in : Source → Kind → ℕ → Form
+form_in x k i = form_at x.known.now.program.table.now k i
 
 -- The rule at place i of a group, if it is there, is among the first words.
 abbrev pub Placed : Source → List ℕ → ℕ → Group → ℕ → Type 0
-Placed x rules count g i = on_at x.table x.choice x.known (kind_at g i) (number_at x.functions x.nodes x.edges g i) ≡ true → (j : ℕ) × (j < count) × Says (at rules j) (form_at x.table (kind_at g i) (number_at x.functions x.nodes x.edges g i))
+Placed x rules count g i = on_in x (kind_at g i) (number_at x.orders.now g i) ≡ true → (j : ℕ) × (j < count) × Says (at rules j) (form_in x (kind_at g i) (number_at x.orders.now g i))
 
 -- The first words are rules, and those of the places that are done are among them.
 pub record Listed (x : Source) (p : Progress) (rules : List ℕ) (count : ℕ) : Type 0 where
-  pub each : (j : ℕ) → j < count → (k : Kind) × (i : ℕ) × (i < count_of x.known.of k) × (on_at x.table x.choice x.known k i ≡ true) × Says (at rules j) (form_at x.table k i)
+  pub each : (j : ℕ) → j < count → (k : Kind) × (i : ℕ) × (i < count_of x.known.now.program.of k) × (on_in x k i ≡ true) × Says (at rules j) (form_in x k i)
   pub all : (g : Group) (i : ℕ) → i < done p g → Placed x rules count g i
 
 -- So it is from lo to hi for the first q places of one group more.
@@ -148,7 +154,7 @@ pub record Lists (S : Given) (rules : List ℕ) (count : ℕ) : Type 0 where
   pub all : (r : RuleOf S) → (j : ℕ) × (j < count) × Says (at rules j) (form_of r)
 
 -- The words are the rules of the widest choice.
-pub record Widest (t : List ℕ) (known : Known) (all : List ℕ) : Type 0 where
+pub record Widest (known : Known) (all : List ℕ) : Type 0 where
   pub few : length all ≤ 8384
   pub named : Named all (length all)
-  pub lists : Lists (given t everywhere known) all (length all)
+  pub lists : Lists (given everywhere known) all (length all)

@@ -3,3 +3,4 @@
 
 pub mod force;
 pub mod list;
+mod source;

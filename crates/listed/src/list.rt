@@ -1,24 +1,25 @@
 // The rules of a table and a choice, listed as words.
-ghost use Rattle.std.specs.Prelude.{◌≡◌, ◌+◌, ◌-◌, ◌*◌, ◌<◌, ◌≤◌, length};
-ghost use Rattle.table.specs.Answer.{Ready};
-ghost use Rattle.rule_order.specs.Orders.{Orders};
-ghost use Rattle.listed.specs.Listed.{node_kind, node_number, edge_kind, function_kind, places_of, slots, kind_at, number_at, place_at, blocks, source, Listed, Lengthens, Lists};
-ghost use Rattle.solver.specs.Words.{head_of, part_of, other_of, base_of, Named};
-ghost use Rattle.listed.specs.Listed.{given};
+ghost use Rattle.std.specs.Prelude.{◌≡◌, ℕ, ◌+◌, ◌-◌, ◌*◌, ◌<◌, ◌≤◌, length};
+ghost use Rattle.listed.specs.Listed.{node_kind, node_number, edge_kind, function_kind, places_of, slots, kind_at, number_at, place_at, blocks, on_in, form_in, rule_of, given, Listed, Lengthens, Lists};
+ghost use Rattle.solver.specs.Words.{Named};
+ghost use Rattle.rules.specs.Numbered.{count_of, Gives};
 
+use crate::source::Source;
 use order::sure::get;
-use rule_order::{end_of, order_all};
-use rules::Known;
+use rule_order::{Item, end_of, order_all};
 use rules::kinds::{Kind, Rule, numbered};
 use rules::sums::Sum;
+use std::ops::Range;
+use sync::Known;
 use table::Counts;
 
-// A rule in one word: 12 bits for each entry, and the base above them.
+// A rule in one word: 12 bits for each entry, of which the other is past the sizes where there is none, and the base above them.
 fn packed(rule: Rule) -> u64
-    requires { (rule.head < 4096) × (rule.part < 4096) × (rule.other < 4096) × (rule.base ≤ 65536) }
-    ensures { (head_of result ≡ rule.head) × (part_of result ≡ rule.part) × (other_of result ≡ rule.other) × (base_of result ≡ rule.base) }
+    requires { (rule.head < 4096) × (rule.part < 4096) × ((z : ℕ) → rule.other ≡ Some z → z < 2304) × (rule.base ≤ 65536) }
+    ensures { rule_of result ≡ rule }
 {
-    let high = (rule.other as u64) + 4096 * (rule.base as u64);
+    let other = rule.other.unwrap_or(4095) as u64;
+    let high = other + 4096 * u64::from(rule.base);
     (rule.head as u64) + 4096 * ((rule.part as u64) + 4096 * high)
 }
 
@@ -89,24 +90,16 @@ fn of_function(c: usize) -> Kind
     }
 }
 
-// The rule at place i of a group, with functions, nodes and edges in these orders.
-fn placed(group: Group, functions: &[u16], nodes: &[u16], edges: &[u16], i: usize) -> Slot
-    ensures { (result.kind ≡ kind_at group i) × (result.number ≡ number_at functions.now nodes.now edges.now group i) }
-{
-    match group {
-        Group::Node => of_node(get(nodes, i / 8), 7 - i % 8),
-        Group::Edge => Slot {
-            kind: of_edge(i % 3),
-            number: get(edges, i / 3),
-        },
-        Group::Back => Slot {
-            kind: Kind::Step(Sum::Before),
-            number: get(edges, i),
-        },
-        Group::Function => Slot {
-            kind: of_function(i % 3),
-            number: get(functions, i / 3),
-        },
+impl Group {
+    // The q-th place from lo to hi, counted from the last one where rules run against the edges.
+    fn place(self, lo: usize, hi: usize, q: usize) -> usize
+        requires { lo + q < hi }
+        ensures { result ≡ place_at self lo hi q }
+    {
+        match self {
+            Group::Node | Group::Edge | Group::Function => lo + q,
+            Group::Back => hi - (q + 1),
+        }
     }
 }
 
@@ -118,170 +111,115 @@ pub fn room(of: Counts) -> usize
     8 * of.nodes + 4 * of.edges + 3 * of.functions
 }
 
-// The q-th place from lo to hi, counted from the last one where rules run against the edges.
-fn place(group: Group, lo: usize, hi: usize, q: usize) -> usize
-    requires { lo + q < hi }
-    ensures { result ≡ place_at group lo hi q }
-{
-    match group {
-        Group::Node => lo + q,
-        Group::Edge => lo + q,
-        Group::Back => hi - (q + 1),
-        Group::Function => lo + q,
-    }
-}
-
-// Lists the rules of a group from place lo to hi behind the first words, and gives how many words there are then.
-fn list(
-    t: &[u8],
-    choice: &[u8],
-    known: Known,
-    functions: &[u16],
-    nodes: &[u16],
-    edges: &[u16],
-    group: Group,
-    lo: usize,
-    hi: usize,
-    first: usize,
-    rules: &mut [u64],
-) -> usize
-    requires ready { Ready t.now known.of × Orders known.of functions.now nodes.now edges.now }
-    requires lo_le_hi { (lo ≤ hi) × (hi ≤ places_of known.of group) × (first + (hi - lo) ≤ length rules.old) }
-    ensures { Lengthens (source t.now choice.now known functions.now nodes.now edges.now) group lo hi rules.old first rules.new result }
-{
-    let mut end = first;
-    let mut q: usize = 0;
-    while q < hi - lo {
-        let s = placed(group, functions, nodes, edges, place(group, lo, hi, q));
-        let kind = s.kind;
-        let next = numbered(kind, t, choice, known, s.number);
-        q += 1;
-        if next.on {
-            rules[end] = packed(next);
-            end += 1;
+// The words stand in fixed memory that the caller lends, so each of these takes and gives how many there are.
+impl Source<'_> {
+    // The kind and number of the rule at place i of a group.
+    fn slot(&self, group: Group, i: usize) -> Slot
+        requires { i < places_of self.now.known.now.program.of group }
+        ensures slot_is { (result.kind ≡ kind_at group i) × (result.number ≡ number_at self.now.orders.now group i) }
+        ensures within { result.number < count_of self.now.known.now.program.of result.kind }
+    {
+        match group {
+            Group::Node => of_node(get(&self.orders.nodes, i / 8), 7 - i % 8),
+            Group::Edge => Slot {
+                kind: of_edge(i % 3),
+                number: get(&self.orders.edges, i / 3),
+            },
+            Group::Back => Slot {
+                kind: Kind::Step(Sum::Before),
+                number: get(&self.orders.edges, i),
+            },
+            Group::Function => Slot {
+                kind: of_function(i % 3),
+                number: get(&self.orders.functions, i / 3),
+            },
         }
     }
-    end
-}
 
-// Lists the rules of a block: nodes from place a to c, edges from b to d, and the function at place f.
-fn list_block(
-    t: &[u8],
-    choice: &[u8],
-    known: Known,
-    functions: &[u16],
-    nodes: &[u16],
-    edges: &[u16],
-    a: usize,
-    c: usize,
-    b: usize,
-    d: usize,
-    f: usize,
-    first: usize,
-    rules: &mut [u64],
-) -> usize
-    requires ready { Ready t.now known.of × Orders known.of functions.now nodes.now edges.now }
-    requires a_le_c { (a ≤ c) × (c ≤ known.of.nodes) × (b ≤ d) × (d ≤ known.of.edges) × (f < known.of.functions) }
-    requires of_in_bounds { (slots known.of ≤ length rules.old) × (first ≤ 8 * a + 4 * b + 3 * f) }
-    requires listed { Listed (source t.now choice.now known functions.now nodes.now edges.now) (blocks a b f) rules.old first }
-    ensures rules_len_unchanged { (length rules.new ≡ length rules.old) × (result ≤ 8 * c + 4 * d + 3 * (f + 1)) }
-    ensures still_listed { Listed (source t.now choice.now known functions.now nodes.now edges.now) (blocks c d (f + 1)) rules.new result }
-{
-    let x = list(
-        t,
-        choice,
-        known,
-        functions,
-        nodes,
-        edges,
-        Group::Node,
-        8 * a,
-        8 * c,
-        first,
-        rules,
-    );
-    let y = list(
-        t,
-        choice,
-        known,
-        functions,
-        nodes,
-        edges,
-        Group::Edge,
-        3 * b,
-        3 * d,
-        x,
-        rules,
-    );
-    let z = list(
-        t,
-        choice,
-        known,
-        functions,
-        nodes,
-        edges,
-        Group::Back,
-        b,
-        d,
-        y,
-        rules,
-    );
-    list(
-        t,
-        choice,
-        known,
-        functions,
-        nodes,
-        edges,
-        Group::Function,
-        3 * f,
-        3 * (f + 1),
-        z,
-        rules,
-    )
-}
-
-// Lists all rules, function by function, and gives how many words there are.
-fn list_all(
-    t: &[u8],
-    choice: &[u8],
-    known: Known,
-    functions: &[u16],
-    nodes: &[u16],
-    edges: &[u16],
-    rules: &mut [u64],
-) -> usize
-    requires { Ready t.now known.of × Orders known.of functions.now nodes.now edges.now × (slots known.of ≤ length rules.old) }
-    ensures rules_len_unchanged { (length rules.new ≡ length rules.old) × (result ≤ slots known.of) }
-    ensures listed { Listed (source t.now choice.now known functions.now nodes.now edges.now) (blocks known.of.nodes known.of.edges known.of.functions) rules.new result }
-{
-    let mut count: usize = 0;
-    let mut a: usize = 0;
-    let mut b: usize = 0;
-    let mut f: usize = 0;
-    while f < known.of.functions {
-        let of = known.of;
-        let c = end_of(t, of, false, nodes, of.nodes, a, functions, f);
-        let d = end_of(t, of, true, edges, of.edges, b, functions, f);
-        count = list_block(
-            t, choice, known, functions, nodes, edges, a, c, b, d, f, count, rules,
-        );
-        a = c;
-        b = d;
-        f += 1;
+    // The rule at place i of a group, if it is there.
+    fn rule_at(&self, group: Group, i: usize) -> Option<Rule>
+        requires { i < places_of self.now.known.now.program.of group }
+        ensures { Gives (on_in self.now (kind_at group i) (number_at self.now.orders.now group i)) (form_in self.now (kind_at group i) (number_at self.now.orders.now group i)) result }
+    {
+        let slot = self.slot(group, i);
+        numbered(slot.kind, self.known, self.choice, slot.number)
     }
-    count
+
+    // Lists the rules of a group from place lo to hi behind the first words, and gives how many words there are then.
+    fn list(&self, group: Group, lo: usize, hi: usize, first: usize, rules: &mut [u64]) -> usize
+        requires { (lo ≤ hi) × (hi ≤ places_of self.now.known.now.program.of group) × (first + (hi - lo) ≤ length rules.old) }
+        ensures { Lengthens self.now group lo hi rules.old first rules.new result }
+    {
+        let mut end = first;
+        for q in 0..hi - lo {
+            if let Some(rule) = self.rule_at(group, group.place(lo, hi, q)) {
+                rules[end] = packed(rule);
+                end += 1;
+            }
+        }
+        end
+    }
+
+    // Lists the rules of a block: those of the nodes and edges at these places, and of the function at place f.
+    fn list_block(
+        &self,
+        nodes: Range<usize>,
+        edges: Range<usize>,
+        f: usize,
+        first: usize,
+        rules: &mut [u64],
+    ) -> usize
+        requires nodes_within { (nodes.start ≤ nodes.end) × (nodes.end ≤ self.now.known.now.program.of.nodes) }
+        requires edges_within { (edges.start ≤ edges.end) × (edges.end ≤ self.now.known.now.program.of.edges) }
+        requires function_within { f < self.now.known.now.program.of.functions }
+        requires room { (slots self.now.known.now.program.of ≤ length rules.old) × (first ≤ 8 * nodes.start + 4 * edges.start + 3 * f) }
+        requires listed { Listed self.now (blocks nodes.start edges.start f) rules.old first }
+        ensures rules_len_unchanged { (length rules.new ≡ length rules.old) × (result ≤ 8 * nodes.end + 4 * edges.end + 3 * (f + 1)) }
+        ensures still_listed { Listed self.now (blocks nodes.end edges.end (f + 1)) rules.new result }
+    {
+        let x = self.list(Group::Node, 8 * nodes.start, 8 * nodes.end, first, rules);
+        let y = self.list(Group::Edge, 3 * edges.start, 3 * edges.end, x, rules);
+        let z = self.list(Group::Back, edges.start, edges.end, y, rules);
+        self.list(Group::Function, 3 * f, 3 * (f + 1), z, rules)
+    }
+
+    // Lists all rules, function by function, and gives how many words there are.
+    fn list_all(&self, rules: &mut [u64]) -> usize
+        requires { slots self.now.known.now.program.of ≤ length rules.old }
+        ensures rules_len_unchanged { (length rules.new ≡ length rules.old) × (result ≤ slots self.now.known.now.program.of) }
+        ensures listed { Listed self.now (blocks self.now.known.now.program.of.nodes self.now.known.now.program.of.edges self.now.known.now.program.of.functions) rules.new result }
+    {
+        let program = &self.known.program;
+        let of = program.of;
+        let functions = &self.orders.functions[..];
+        let nodes = &self.orders.nodes[..];
+        let edges = &self.orders.edges[..];
+        let mut count = 0;
+        let mut a = 0;
+        let mut b = 0;
+        for f in 0..of.functions {
+            let left = &functions[f..of.functions];
+            let c = end_of(program, Item::Node, &nodes[..of.nodes], a, left);
+            let d = end_of(program, Item::Edge, &edges[..of.edges], b, left);
+            count = self.list_block(a..c, b..d, f, count, rules);
+            a = c;
+            b = d;
+        }
+        count
+    }
 }
 
 // Lists the rules of a table and a choice, and gives how many words there are.
-pub fn list_rules(t: &[u8], choice: &[u8], known: Known, rules: &mut [u64]) -> usize
-    requires { Ready t.now known.of × (slots known.of ≤ length rules.old) }
-    ensures rules_len_unchanged { (length rules.new ≡ length rules.old) × (result ≤ slots known.of) × Named rules.new result }
-    ensures lists { Lists (given t.now choice.now known) rules.new result }
+pub fn list_rules(known: &Known<'_>, choice: &[u8], rules: &mut [u64]) -> usize
+    requires { slots known.now.program.of ≤ length rules.old }
+    ensures rules_len_unchanged { (length rules.new ≡ length rules.old) × (result ≤ slots known.now.program.of) × Named rules.new result }
+    ensures lists { Lists (given choice.now known.now) rules.new result }
 {
-    let mut functions = [0u16; 64];
-    let mut nodes = [0u16; 512];
-    let mut edges = [0u16; 1024];
-    order_all(t, known.of, &mut functions, &mut nodes, &mut edges);
-    list_all(t, choice, known, &functions, &nodes, &edges, rules)
+    let orders = order_all(&known.program);
+    let source = Source {
+        known,
+        choice,
+        orders: &orders,
+    };
+    source.list_all(rules)
 }

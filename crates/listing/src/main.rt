@@ -7,8 +7,7 @@ use std::io;
 fn main(rt: HostRuntime) -> io::Result<()> {
     // one byte more than the longest table, so that a longer input is seen to be one
     let mut buffer = [0u8; 12801];
-    let n = read_full(&mut rt.stdin(), &mut buffer)?;
-    let made = text::listing(&buffer[..n]);
-    let bytes = made.bytes;
-    rt.write_all(&bytes[..made.length])
+    let bytes = read_full(&mut rt.stdin(), &mut buffer)?;
+    let made = text::listing(bytes);
+    rt.write_all(&made.bytes[..made.length])
 }

@@ -1,7 +1,7 @@
 // The preference order by value.
 ghost use Rattle.std.specs.Prelude.{◌≡◌, ◌≤◌, take};
 
-// The spawns of a program in the preference order: the first `count` numbers, with zeros behind them. It is handed out by value, and there is no heap.
+// The spawns of a program in the preference order: the first `count` numbers, with zeros behind them. By value, since there is no heap.
 #[derive(Clone, Copy)]
 pub struct Order {
     pub count: usize,

@@ -8,6 +8,7 @@ ghost use Rattle.preference.specs.Levels.{found_in, Levels, leads_down, Deepened
 use program::Program;
 
 // Gives the entries depth 0, and no function else one.
+#[tactic(auto, using(crate::proofs::Levels::started_entry, crate::proofs::Levels::started_pass))]
 fn start(program: &Program<'_>) -> [Option<u32>; 64]
     ensures { (f : ℕ) → f < program.now.of.functions → found_in result f ≡ cond ((program_of program.now.table.now).entry f) (Some 0) None }
 {

@@ -90,7 +90,7 @@ fn end_rule(known: &Known<'_>, sum: Sum, f: usize) -> Option<Rule>
     let program = known.program;
     let rule = Rule {
         head: 4 * f + sum.kind(),
-        base: sum.due(&program, f).number(),
+        base: u32::from(sum.due(&program, f)),
         part: sum.number(sum.ending(&program, f)),
         other: None,
     };
@@ -105,7 +105,7 @@ fn total_node_rule(program: &Program<'_>, n: usize) -> Rule
     let f = program.owner(n);
     Rule {
         head: 4 * f,
-        base: frame_size(program, f).number(),
+        base: u32::from(frame_size(program, f)),
         part: 4 * (program.of.functions + n),
         other: None,
     }
@@ -121,7 +121,7 @@ fn total_edge_rule(program: &Program<'_>, e: usize) -> Rule
     let f = program.owner(n);
     Rule {
         head: 4 * f,
-        base: frame_size(program, f).number(),
+        base: u32::from(frame_size(program, f)),
         part: Sum::After.number(p),
         other: Some(4 * (program.of.functions + n) + 2),
     }

@@ -2,19 +2,18 @@
 use Prim.Native.Nat.{ℕ, ◌+◌, ◌*◌, ◌<◌, ◌≤◌}
 use mathlib.Core.Path.{◌≡◌, refl, sym, ap, ◌∙◌, subst, fun_ext}
 use mathlib.Core.Bool.{Bool, true}
-use mathlib.Core.List.{List}
+use mathlib.Core.List.{map}
 use native.Mathlib.Omega.{arith}
-use Rattle.table.specs.Answer.{Ready}
-use Rattle.table.specs.Program.{Program, program_of}
-use Rattle.table.specs.declared.Counts.{Counts}
+use Rattle.table.specs.Program.{Program}
 use Rattle.table.specs.WellFormed.{WellFormed}
 use Rattle.table.proofs.Laws.{well_formed}
-use Rattle.table.proofs.Ready.{nodes_are}
 use Rattle.sync.specs.Words.{member}
 use Rattle.size.specs.Numbers.{at}
-use Rattle.rules.specs.declared.Known.{Known}
-use Rattle.sizes.specs.Known.{Looked}
-use Rattle.sizes.specs.Trials.{FoundFor}
+use Rattle.sync.specs.Found.{Looked}
+use Rattle.sync.specs.declared.Known.{Known}
+use Rattle.size.specs.Size.{value_of}
+use Rattle.solver.specs.declared.solution.Solution.{Solution}
+use Rattle.sizes.specs.Trials.{known_program, FoundFor}
 use Rattle.sync.specs.Paths.{Path, Open}
 use Rattle.sync.specs.Synchronising.{Synchronising}
 use Rattle.sync.proofs.Laws.{synchronising_unique}
@@ -89,7 +88,8 @@ module _ (g : Program) (w : WellFormed g) (set : ℕ → Bool) (set_is : Synchro
 pub none_above : (g : Program) → WellFormed g → (c s : ℕ → ℕ) → LeastSizes g c s → (Safe g c → ⊥) → (d : ℕ → ℕ) → AtMost g c d → Safe g d → ⊥
 none_above g w c s l n d b safe = n (safe_smaller g w c d s l b safe)
 
--- what was found and written is what the tests look at
-pub tells_found : (t : List ℕ) {known : Known} {of : Counts} → Looked t known → Ready t of → (c : ℕ → ℕ) {old new after before : List ℕ} → FoundFor t known c old new after before → {r : Bool} → Tells r (PostsBelow (program_of t) (at new) of.nodes × EdgesBounded (program_of t) (at after) (at before)) → Tells r (Safe (program_of t) c)
-tells_found t {known} {of} looked ready c f told =
-    tells_written (program_of t) (well_formed t ready.accepted_is) (member known.synchronising) looked.sets.set c f.sizes _ _ f.sizes_of of.nodes (nodes_are t of ready) _ f.written.written told
+-- what was found is what the tests look at
+pub tells_found : {known : Known} → Looked known → (c : ℕ → ℕ) {f : Solution} → FoundFor known c f → {r : Bool} → Tells r (PostsBelow (known_program known) (at (map value_of f.sizes)) known.program.of.nodes × EdgesBounded (known_program known) (at (map value_of f.after)) (at (map value_of f.before))) → Tells r (Safe (known_program known) c)
+tells_found {known} looked c f told =
+    let p = known.program in
+    tells_written (known_program known) (well_formed p.table.now p.ready.accepted_is) (member known.synchronising) looked.set c f.sizes _ _ f.sizes_of p.of.nodes p.nodes_are _ f.sizes_are told

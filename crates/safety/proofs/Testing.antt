@@ -13,7 +13,6 @@ use Rattle.table.proofs.Booleans.{not_both}
 use Rattle.table.proofs.Laws.{edge_which}
 use Rattle.table.proofs.Ready.{edge_is}
 use Rattle.size.specs.Size.{unbounded}
-use Rattle.size.specs.Numbers.{at}
 use Rattle.safety.specs.Test.{PostsBelow, EdgesBounded, Tells}
 
 -- what a test that ended says
@@ -42,26 +41,26 @@ module _ (g : Program) (sizes : ℕ → ℕ) where
       go m h (no e) = p.zero_below m (omega (arith, e))
 
 -- the first edges, e of them, do not have unbounded sums on both sides
-pub record EdgesBelow (t after before : List ℕ) (e : ℕ) : Type 0 where
-  pub not_below : (j : ℕ) → j < e → at after (edge_from t j) ≡ unbounded → at before (edge_to t j) ≡ unbounded → ⊥
+pub record EdgesBelow (t : List ℕ) (after before : ℕ → ℕ) (e : ℕ) : Type 0 where
+  pub not_below : (j : ℕ) → j < e → after (edge_from t j) ≡ unbounded → before (edge_to t j) ≡ unbounded → ⊥
 
-module _ (t after before : List ℕ) where
+module _ (t : List ℕ) (after before : ℕ → ℕ) where
   pub edges_none : EdgesBelow t after before 0
   edges_none = record { not_below = λ j h. absurd (omega arith) }
 
-  pub edges_more : {e : ℕ} → EdgesBelow t after before e → (at after (edge_from t e) ≡ unbounded → at before (edge_to t e) ≡ unbounded → ⊥) → EdgesBelow t after before (e + 1)
+  pub edges_more : {e : ℕ} → EdgesBelow t after before e → (after (edge_from t e) ≡ unbounded → before (edge_to t e) ≡ unbounded → ⊥) → EdgesBelow t after before (e + 1)
   edges_more {e} p z = record { not_below = λ j h. go j h (ℕ_discrete j e) }
     where
-      go : (j : ℕ) → j < e + 1 → Dec (j ≡ e) → at after (edge_from t j) ≡ unbounded → at before (edge_to t j) ≡ unbounded → ⊥
+      go : (j : ℕ) → j < e + 1 → Dec (j ≡ e) → after (edge_from t j) ≡ unbounded → before (edge_to t j) ≡ unbounded → ⊥
       go j h (yes q) = rw q z
       go j h (no q) = p.not_below j (omega (arith, q))
 
   module _ (of : Counts) (ready : Ready t of) where
-    pub edges_all : (e : ℕ) → of.edges ≤ e → EdgesBelow t after before e → EdgesBounded (program_of t) (at after) (at before)
+    pub edges_all : (e : ℕ) → of.edges ≤ e → EdgesBelow t after before e → EdgesBounded (program_of t) after before
     edges_all e h p = record { not_both = λ a b i x y. one a b (edge_which t a b i) x y }
       where
-        one : (a b : ℕ) → (j : ℕ) × (j < edges t) × (edge_from t j ≡ a) × (edge_to t j ≡ b) → at after a ≡ unbounded → at before b ≡ unbounded → ⊥
-        one a b j x y = p.not_below j.0 (omega (arith, j.1, ready.counts_are.edges_are)) (ap (at after) j.2 ∙ x) (ap (at before) j.3 ∙ y)
+        one : (a b : ℕ) → (j : ℕ) × (j < edges t) × (edge_from t j ≡ a) × (edge_to t j ≡ b) → after a ≡ unbounded → before b ≡ unbounded → ⊥
+        one a b j x y = p.not_below j.0 (omega (arith, j.1, ready.counts_are.edges_are)) (ap after j.2 ∙ x) (ap before j.3 ∙ y)
 
-    pub edge_both : (e : ℕ) → e < of.edges → at after (edge_from t e) ≡ unbounded → at before (edge_to t e) ≡ unbounded → EdgesBounded (program_of t) (at after) (at before) → ⊥
+    pub edge_both : (e : ℕ) → e < of.edges → after (edge_from t e) ≡ unbounded → before (edge_to t e) ≡ unbounded → EdgesBounded (program_of t) after before → ⊥
     edge_both e h x y b = b.not_both (edge_from t e) (edge_to t e) (edge_is t of ready e h) x y

@@ -10,7 +10,7 @@ pub enum Size {
     Unbounded,
 }
 
-#[tactic(auto, using(crate::proofs::Values::size_bytes, crate::proofs::Values::size_unbounded, crate::proofs::Values::size_same))]
+#[tactic(auto, using(crate::proofs::Values::size_bytes, crate::proofs::Values::size_unbounded))]
 impl Size {
     // The largest number of bytes that is a size.
     pub const CEILING: u32 = 65535;
@@ -27,34 +27,13 @@ impl Size {
         Size::Bytes(bytes)
     }
 
-    // How it is written: unbounded as 65,536.
-    pub fn number(self) -> u32
-        ensures { result ≡ value_of self }
-    {
-        match self {
-            Size::Unbounded => 65536,
-            Size::Bytes(n) => if Size::CEILING < n { 65536 } else { n },
-        }
-    }
-
     // The sum: unbounded where it is above the ceiling or has an unbounded part.
     pub fn add(self, other: Size) -> Size
         ensures { result ≡ size_of (value_of self + value_of other) }
     {
-        match self {
-            Size::Unbounded => Size::Unbounded,
-            Size::Bytes(a) => match other {
-                Size::Unbounded => Size::Unbounded,
-                Size::Bytes(b) => {
-                    if Size::CEILING < a {
-                        return Size::Unbounded;
-                    }
-                    if Size::CEILING - a < b {
-                        return Size::Unbounded; // the sum is above the ceiling
-                    }
-                    Size::Bytes(a + b)
-                }
-            },
+        match (self, other) {
+            (Size::Bytes(a), Size::Bytes(b)) => Size::from_frame(a.saturating_add(b)),
+            _ => Size::Unbounded,
         }
     }
 
@@ -62,16 +41,21 @@ impl Size {
     pub fn max(self, other: Size) -> Size
         ensures { result ≡ size_of (max (value_of self) (value_of other)) }
     {
-        match self {
-            Size::Unbounded => Size::Unbounded,
-            Size::Bytes(a) => match other {
-                Size::Unbounded => Size::Unbounded,
-                Size::Bytes(b) => if a < b {
-                    Size::from_frame(b)
-                } else {
-                    Size::from_frame(a)
-                },
-            },
+        match (self, other) {
+            (Size::Bytes(a), Size::Bytes(b)) => Size::from_frame(a.max(b)),
+            _ => Size::Unbounded,
+        }
+    }
+}
+
+// How a size is written: unbounded as 65,536.
+impl From<Size> for u32 {
+    ghost from_gives = { λ size number. number ≡ value_of size };
+
+    fn from(size: Size) -> u32 {
+        match size {
+            Size::Bytes(n) if n <= Size::CEILING => n,
+            _ => 65536,
         }
     }
 }

@@ -1,6 +1,6 @@
 -- The checks of a call with a choice and a sizes buffer, one after another.
 use Prim.Native.Nat.{ℕ, ◌<◌, ◌≤◌}
-use mathlib.Core.Path.{◌≡◌, refl, sym, ap, ◌∙◌}
+use mathlib.Core.Path.{◌≡◌, refl, sym, ap, ◌∙◌, subst}
 use mathlib.Core.Bool.{Bool, true, false, true≢false, not, cond, ◌&&◌, ◌||◌}
 use mathlib.Core.List.{List, [], ◌∷◌, ◌++◌, map, Memᴰ}
 use Rattle.std.specs.Prelude.{Option, None, Some}
@@ -12,22 +12,27 @@ use borrow.Author.Tests.{eq-eqb, ne_eqb, eqb-true, lt-ltb, le-ltb, ltb-false, le
 use Rattle.table.specs.Below.{earliest}
 use Rattle.table.specs.Record.{spawn}
 use Rattle.table.specs.Refusal.{Check, Refusal, over, refused_at, refusal}
+use Rattle.std.specs.Prelude.{Ok, Err}
+use Rattle.std.specs.Prelude.{Result as CodeResult}
+use Rattle.table.specs.Answer.{number_of, outcome, outcome_of}
+use Rattle.table.specs.declared.refusal.Refused.{Refused}
+use Rattle.table.proofs.Laws.{answer_accepted, answer_refused}
+use Rattle.sync.specs.Found.{counts_found}
 use Rattle.table.specs.Checks.{checks, Accepted}
 use Rattle.table.specs.Program.{program_of}
-use Rattle.table.specs.Scan.{First}
 use Rattle.sync.specs.Words.{member}
 use Rattle.table.proofs.Booleans.{or_false, and_true_left, and_true_right}
-use Rattle.table.proofs.Below.{first_some, first_none, earliest_passed}
+use Rattle.table.proofs.Below.{earliest_passed}
 use Rattle.table.proofs.Refusals.{refusal_pass, refusal_here, refusal_none, not_applied, refusal_over_none, refusal_over_some}
 use Rattle.rules.specs.Choice.{unmerged, unguarded, ChoiceFor}
-use Rattle.rules.specs.Rules.{entries}
-use Rattle.sizes.specs.Call.{Call, choice_of, wrong_length, outside, too_short, sizes_row, choice_checks, call_checks, Result, done, refused, result_for, table_result, call_result, result_of, Leaves}
-use Rattle.sizes.specs.Known.{Looked, SeenFor, AdmittedFor}
-use Rattle.sizes.specs.Trials.{FoundFor}
-use Rattle.sizes.specs.declared.admit.Seen.{Seen}
-use Rattle.sizes.specs.declared.Answer.{Answer}
-use Rattle.sizes.specs.declared.Answer.TheVariants.{Done, Refused}
-use Rattle.rules.specs.declared.Known.{Known}
+use Rattle.rules.specs.Rules.{entries, LeastSizes}
+use Rattle.sizes.specs.Call.{Call, choice_of, wrong_length, outside, too_short, sizes_row, choice_checks, call_checks, Result, done, refused, result_for, table_result, call_result, result_of}
+use Rattle.sizes.specs.Known.{KnownFor}
+use Rattle.sizes.specs.Trials.{known_program, FoundFor}
+use Rattle.sync.specs.declared.Known.{Known}
+use Rattle.size.specs.Size.{value_of}
+use Rattle.size.specs.Numbers.{at, Written}
+use Rattle.solver.specs.declared.solution.Solution.{Solution}
 
 -- ---- any list of checks
 
@@ -51,6 +56,12 @@ module _ {X : Type 0} (cs : List (Check X)) (x : X) where
       go : (o : Option Refusal) → refusal cs x ≡ o → refusal cs x ≡ None
       go None q = q
       go (Some r) q = absurd (true≢false (ap is_done (e ∙ ap result_for q)))
+
+-- what the table's check finds is what the checks of a table say
+pub looked_result : (t : List ℕ) (r : CodeResult Known Refused) → outcome_of (counts_found r) ≡ outcome t → result_of r ≡ table_result t
+unfolding table_result
+looked_result t (Ok known) e = told_done checks t (answer_accepted t known.program.of e).accepted_is
+looked_result t (Err r) e = told_refused checks t (number_of r.cause) r.place (answer_refused t r e)
 
 -- where those on the table come first: the first of them that applies decides, and the table is accepted if none of all does
 module _ {X : Type 0} (table : X → List ℕ) (cs : List (Check X)) (x : X) where
@@ -88,11 +99,6 @@ module _ {X : Type 0} (table : X → List ℕ) (buffer : X → ℕ) (x : X) wher
   unfolding too_short
   sizes_fit cs m e = ltb-false _ _ (not_applied (too_short (table x) (buffer x)) (entries (program_of (table x))) (refusal_none x cs e (sizes_row table buffer) m))
 
--- what is known of a table that is accepted is known whatever else the call is refused for
-pub still_known : (t : List ℕ) (answer : Answer) (seen : Seen) → AdmittedFor t Done seen → AdmittedFor t answer seen
-still_known t Done seen k = k
-still_known t (Refused n p) seen k = tt
-
 -- ---- the checks of a call with a choice
 
 module _ (x : Call) (a : Accepted x.table) where
@@ -110,16 +116,16 @@ module _ (x : Call) (a : Accepted x.table) where
   unfolding choice_checks wrong_length
   past_length h = past_table ∙ refusal_pass x _ _ (rw (eq-eqb (length x.choice) (program_of x.table).nodes h) refl)
 
-  module _ (h : length x.choice ≡ (program_of x.table).nodes) (n : ℕ) (f : First (outside x.table x.choice) (program_of x.table).nodes n) where
-    pub byte_refused : n < (program_of x.table).nodes → refused 9 n ≡ call_result x
+  module _ (h : length x.choice ≡ (program_of x.table).nodes) {found : Option ℕ} (f : found ≡ earliest (outside x.table x.choice) (program_of x.table).nodes) where
+    pub byte_refused : (n : ℕ) → found ≡ Some n → refused 9 n ≡ call_result x
     unfolding call_result choice_checks
-    byte_refused l = told_refused call_checks x 9 n (past_length h ∙ refusal_here x _ _ (first_some _ _ n f l))
+    byte_refused n e = told_refused call_checks x 9 n (past_length h ∙ refusal_here x _ _ (sym f ∙ e))
 
-    past_bytes : (program_of x.table).nodes ≤ n → refusal call_checks x ≡ refusal (drop 2 choice_checks) x
+    past_bytes : found ≡ None → refusal call_checks x ≡ refusal (drop 2 choice_checks) x
     unfolding choice_checks
-    past_bytes l = past_length h ∙ refusal_pass x _ _ (first_none _ _ n f l)
+    past_bytes e = past_length h ∙ refusal_pass x _ _ (sym f ∙ e)
 
-    module _ (l : (program_of x.table).nodes ≤ n) (needed : ℕ) (e : needed ≡ entries (program_of x.table)) where
+    module _ (l : found ≡ None) (needed : ℕ) (e : needed ≡ entries (program_of x.table)) where
       pub buffer_refused : x.buffer < needed → refused 11 needed ≡ call_result x
       unfolding call_result choice_checks
       buffer_refused b = told_refused call_checks x 11 needed (past_bytes l ∙ sizes_short _ _ x needed e b)
@@ -195,17 +201,10 @@ done_valid x e =
       fits = sizes_fit (λ (y : Call). y.table) (λ (y : Call). y.buffer) x choice_checks (search in_List depth 40) c;
     }
 
--- what an admitted call has: nothing is refused, and its table is known
-pub record Admission (x : Call) (seen : Seen) : Type 0 where
-  pub done_is : done ≡ call_result x
-  pub valid : Valid x
-  pub known : SeenFor x.table seen
-
-pub admission : (x : Call) (answer : Answer) (seen : Seen) → answer ≡ Done → result_of answer ≡ call_result x → AdmittedFor x.table answer seen → Admission x seen
-admission x answer seen e r a =
-    let d : done ≡ call_result x = rw e at r in
-    record { done_is = d; valid = done_valid x d; known = rw e at a }
-
 -- what is found and written is what the call leaves
-pub found_leaves : (t choice : List ℕ) (known : Known) {old new after before : List ℕ} → Looked t known → FoundFor t known (choice_of choice) old new after before → Leaves t choice old Done new
-found_leaves t choice known looked f = (f.sizes, (member known.synchronising, looked.sets.set, f.sizes_of.least), f.written)
+pub found_leaves : (t choice : List ℕ) {known : Known} {f : Solution} {old new : List ℕ} → KnownFor t known → FoundFor known (choice_of choice) f → Written (entries (known_program known)) (at (map value_of f.sizes)) old new → (sizes : ℕ → ℕ) × LeastSizes (program_of t) (choice_of choice) sizes × Written (entries (program_of t)) sizes old new
+found_leaves t choice {known} {f} {old} {new} k found w =
+    subst
+    (λ (u : List ℕ). (sizes : ℕ → ℕ) × LeastSizes (program_of u) (choice_of choice) sizes × Written (entries (program_of u)) sizes old new)
+    k.table_is
+    (found.sizes, (member known.synchronising, k.looked.set, found.sizes_of.least), record { long = w.long; written = λ x h. w.written x h ∙ found.sizes_are x h; tail = w.tail })

@@ -1,73 +1,89 @@
 -- What the least solution of a table's rules comes to: the least sizes, and the largest sums.
 use Prim.Native.Nat.{ℕ, ◌+◌, ◌<◌, ◌≤◌}
 use mathlib.Core.Path.{◌≡◌, sym, ap, ◌∙◌, subst}
-use mathlib.Core.List.{List}
+use mathlib.Core.List.{List, [], map}
+use lib.ListN.{length, take}
 use native.Mathlib.Omega.{arith}
-use Rattle.table.specs.Program.{program_of}
+use Rattle.std.proofs.lemmas.List.{get_or-take, length-take-le}
 use Rattle.table.proofs.Laws.{well_formed}
-use Rattle.table.proofs.Ready.{nodes_are, few_nodes}
+use Rattle.sync.specs.Found.{Looked}
 use Rattle.sync.specs.Words.{member}
-use Rattle.size.specs.Size.{unbounded}
-use Rattle.size.specs.Numbers.{at, Written}
-use Rattle.solver.specs.Values.{value_at, starts_from, Settles}
-use Rattle.solver.proofs.Rises.{der_le}
-use Rattle.solver.proofs.Values.{value_size, value_after, value_before, starts_taken, starts_zero}
+use Rattle.sync.specs.declared.Known.{Known}
+use Rattle.size.specs.Size.{cap, value_of}
+use Rattle.size.specs.Numbers.{at}
+use Rattle.solver.specs.declared.solution.Solution.{Solution}
+use Rattle.solver.specs.Values.{number_at, values_of, starts_from, Settles}
+use Rattle.solver.proofs.Rises.{der_less}
+use Rattle.solver.proofs.Values.{value_size, value_after, value_before, first_starts, starts_zero}
 use Rattle.rules.specs.Rules.{entries}
 use Rattle.rules.specs.Sums.{LargestAfter, LargestBefore}
 use Rattle.rules.specs.System.{Entry, size, along, Given, forms_of, Solved}
-use Rattle.listed.specs.Listed.{given, Lists}
-use Rattle.rules.specs.declared.Known.{Known}
 use Rattle.rules.specs.declared.sums.Sum.TheVariants.{After, Before}
-use Rattle.listed.proofs.Worded.{seen, seen_size, seen_along, words_solve}
 use Rattle.rules.proofs.Solved.{solved_least, solved_after, solved_before}
-use Rattle.sizes.specs.Known.{Looked}
-use Rattle.sizes.proofs.Laws.{entries_few}
-use Rattle.sizes.specs.Trials.{DerivedFor, FoundFor}
+use Rattle.listed.specs.Listed.{given, Lists}
+use Rattle.listed.proofs.Worded.{seen, seen_size, seen_along, words_solve}
+use Rattle.sizes.proofs.Trying.{zeros_derived}
+use Rattle.sizes.specs.Trials.{known_program, DerivedFor, FoundFor}
 
-module _ (t choice : List ℕ) (known : Known) (looked : Looked t known) where
-  abbrev S : Given
-  S = given t choice known
+-- the rules that the code cuts off are listed
+pub first_lists : {S : Given} {rules : List ℕ} {count : ℕ} → count ≤ length rules → Lists S rules count → Lists S (take count rules) (length (take count rules))
+first_lists {S} {rules} {count} h l =
+    rw length-take-le
+    (record { each = λ j q. let r = l.each j q in (r.0, rw get_or-take r.1); all = λ r. let a = l.all r in let q = a.1 in (a.0, q, rw get_or-take a.2) })
 
-  -- what is derived can be started from
-  pub starts_sized : (taken : ℕ) (numbers : List ℕ) → DerivedFor t known (at choice) (starts_from taken numbers) → (x : ℕ) → x < taken → at numbers x ≤ unbounded
-  starts_sized taken numbers d x h = omega (arith, starts_taken taken numbers x h, der_le (forms_of S) (d.each x))
+module _ (choice : List ℕ) (known : Known) (looked : Looked known) (f : Solution) {rules : List ℕ} {from : ℕ → ℕ} (s : Settles rules from f) (lists : Lists (given choice known) rules (length rules)) (past : (x : ℕ) → 2304 ≤ x → from x ≡ 0) (derived : DerivedFor known (at choice) from) where
+  abbrev v : Entry → ℕ
+  v = seen (number_at f)
 
-  module _ (taken : ℕ) (numbers : List ℕ) {rules : List ℕ} {count : ℕ} {sizes old_after after old_before before : List ℕ} (s : Settles rules count (starts_from taken numbers) known.of.nodes sizes old_after after old_before before) (few : taken ≤ entries (program_of t)) (lists : Lists S rules count) (d : DerivedFor t known (at choice) (starts_from taken numbers)) where
-    abbrev v : Entry → ℕ
-    v = seen (value_at s.values)
+  solved : Solved (known_program known) (member known.synchronising) (member known.reached) (at choice) v
+  solved = words_solve (given choice known) lists derived past s
 
-    solved : Solved (program_of t) (member known.synchronising) (member known.reached) (at choice) v
-    solved = words_solve S lists d (λ x h. starts_zero taken numbers x (omega (arith, entries_few looked.ready))) s.solved
+  few : entries (known_program known) ≤ 2304
+  few =
+      let p = known.program in
+      omega (arith, p.functions_are, p.nodes_are, p.few_functions, p.few_nodes)
 
-    size_is : (x : ℕ) → x < entries (program_of t) → at sizes x ≡ v (size x)
-    size_is x h = let l : x < 2304 = omega (arith, entries_few looked.ready) in ap (λ (m : List ℕ). at m x) (sym s.sizes_are) ∙ sym (value_size s.values x l) ∙ sym (seen_size (value_at s.values) x l)
+  size_is : (x : ℕ) → x < entries (known_program known) → at (map value_of f.sizes) x ≡ v (size x)
+  size_is x h = let l : x < 2304 = omega (arith, few) in sym (value_size (values_of f) x l) ∙ sym (seen_size (number_at f) x l)
 
-    pub found : {written : ℕ} → written ≡ entries (program_of t) → {old new : List ℕ} → Written written (at sizes) old new → FoundFor t known (at choice) old new after before
-    found e {old} {new} q =
-        let w : Written (entries (program_of t)) (at sizes) old new = rw e at q in
-        let g = program_of t in
-        let set = member known.synchronising in
-        let reached = member known.reached in
-        let f = well_formed t looked.ready.accepted_is in
-        record {
-          sizes = λ x. v (size x);
-          sizes_of = record {
-            least = solved_least g set reached (at choice) f looked.sets.set looked.sets.reach v solved;
-            after_is = λ n h. subst (LargestAfter g set (λ x. v (size x)) n) (after_is n h) (solved_after g set reached (at choice) f looked.sets.set looked.sets.reach v solved n h);
-            before_is = λ n h. subst (LargestBefore g set (λ x. v (size x)) n) (before_is n h) (solved_before g set reached (at choice) f looked.sets.set looked.sets.reach v solved n h);
-          };
-          derived = record { each = λ x. solved.derived (size x) };
-          written = record { long = w.long; written = λ x h. w.written x h ∙ size_is x h; tail = w.tail };
-        }
-      where
-        node_low : (n : ℕ) → n < (program_of t).nodes → n < known.of.nodes
-        node_low n h = omega (arith, nodes_are t known.of looked.ready)
+  sum_low : (n : ℕ) → n < (known_program known).nodes → n < 512
+  sum_low n h =
+      let p = known.program in
+      omega (arith, p.nodes_are, p.few_nodes)
 
-        sum_low : (n : ℕ) → n < (program_of t).nodes → n < 512
-        sum_low n h = omega (arith, node_low n h, few_nodes t known.of looked.ready)
+  after_is : (n : ℕ) → n < (known_program known).nodes → v (along After n) ≡ at (map value_of f.after) n
+  after_is n h = seen_along (number_at f) After n (sum_low n h) ∙ value_after (values_of f) (2304 + n) (omega arith) (omega (arith, sum_low n h)) ∙ ap (at (values_of f).after) (omega arith)
 
-        after_is : (n : ℕ) → n < (program_of t).nodes → v (along After n) ≡ at after n
-        after_is n h = seen_along (value_at s.values) After n (sum_low n h) ∙ value_after s.values (2304 + n) (omega arith) (omega (arith, sum_low n h)) ∙ ap (at s.values.after) (omega arith) ∙ sym (s.after_are.written n (node_low n h))
+  before_is : (n : ℕ) → n < (known_program known).nodes → v (along Before n) ≡ at (map value_of f.before) n
+  before_is n h = seen_along (number_at f) Before n (sum_low n h) ∙ value_before (values_of f) (2816 + n) (omega arith) (omega (arith, sum_low n h)) ∙ ap (at (values_of f).before) (omega arith)
 
-        before_is : (n : ℕ) → n < (program_of t).nodes → v (along Before n) ≡ at before n
-        before_is n h = seen_along (value_at s.values) Before n (sum_low n h) ∙ value_before s.values (2816 + n) (omega arith) (omega (arith, sum_low n h)) ∙ ap (at s.values.before) (omega arith) ∙ sym (s.before_are.written n (node_low n h))
+  pub found : FoundFor known (at choice) f
+  found =
+      let g = known_program known in
+      let set = member known.synchronising in
+      let reached = member known.reached in
+      let well = well_formed known.program.table.now known.program.ready.accepted_is in
+      record {
+        sizes = λ x. v (size x);
+        sizes_of = record {
+          least = solved_least g set reached (at choice) well looked.set looked.reach v solved;
+          after_is = λ n h. subst (LargestAfter g set (λ x. v (size x)) n) (after_is n h) (solved_after g set reached (at choice) well looked.set looked.reach v solved n h);
+          before_is = λ n h. subst (LargestBefore g set (λ x. v (size x)) n) (before_is n h) (solved_before g set reached (at choice) well looked.set looked.reach v solved n h);
+        };
+        derived = record { each = λ x. solved.derived (size x) };
+        sizes_are = size_is;
+      }
+
+-- from zeros, and from sizes that the choice derives
+module _ (choice : List ℕ) (known : Known) (looked : Looked known) (f : Solution) {rules : List ℕ} {count : ℕ} (fits : count ≤ length rules) (lists : Lists (given choice known) rules count) {from : ℕ → ℕ} (s : Settles (take count rules) from f) where
+  pub found_from_zeros : ((x : ℕ) → from x ≡ cap (at [] x)) → FoundFor known (at choice) f
+  found_from_zeros start = found choice known looked f s (first_lists fits lists) (λ x h. start x) (zeros_derived known (at choice) from start)
+
+  pub found_from : (taken : ℕ) (numbers : List ℕ) → ((x : ℕ) → from x ≡ cap (at (take taken numbers) x)) → taken ≤ 2304 → DerivedFor known (at choice) (starts_from taken numbers) → FoundFor known (at choice) f
+  found_from taken numbers start few d =
+      found choice known looked f s (first_lists fits lists)
+      (λ x h. started x ∙ ap cap (starts_zero taken numbers x (omega arith)))
+      (record { each = λ x. rw started (der_less (forms_of (given choice known)) (cap (starts_from taken numbers x)) (omega arith) (d.each x)) })
+    where
+      started : (x : ℕ) → from x ≡ cap (starts_from taken numbers x)
+      started x = start x ∙ ap cap (first_starts taken numbers x)

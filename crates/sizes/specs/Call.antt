@@ -8,8 +8,10 @@ use Rattle.table.specs.Program.{program_of}
 use Rattle.rules.specs.Choice.{unmerged, unguarded}
 use Rattle.rules.specs.Rules.{entries, LeastSizes}
 use Rattle.size.specs.Numbers.{Written}
-use Rattle.sizes.specs.declared.Answer.{Answer}
-use Rattle.sizes.specs.declared.Answer.TheVariants.{Done, Refused}
+use Rattle.std.specs.Prelude.{Ok, Err}
+use Rattle.std.specs.Prelude.{Result as CodeResult}
+use Rattle.table.specs.Answer.{number_of}
+use Rattle.table.specs.declared.refusal.Refused.{Refused}
 
 pub record Call : Type 0 where
   pub table : List ℕ
@@ -69,11 +71,11 @@ unfoldable pub call_result : Call → Result
 call_result x = result_for (refusal call_checks x)
 
 -- what each case of the answer says
-abbrev pub result_of : Answer → Result
-result_of Done = done
-result_of (Refused number place) = refused number place
+abbrev pub result_of : {X : Type 0} → CodeResult X Refused → Result
+result_of (Ok x) = done
+result_of (Err r) = refused (number_of r.cause) r.place
 
 -- What the call leaves in the sizes buffer: the least sizes, and the old numbers past them; and "A refusal writes nothing."
-abbrev pub Leaves : List ℕ → List ℕ → List ℕ → Answer → List ℕ → Type 0
-Leaves t choice old Done new = (sizes : ℕ → ℕ) × LeastSizes (program_of t) (choice_of choice) sizes × Written (entries (program_of t)) sizes old new
-Leaves t choice old (Refused number place) new = new ≡ old
+abbrev pub Leaves : {X : Type 0} → List ℕ → List ℕ → List ℕ → CodeResult X Refused → List ℕ → Type 0
+Leaves t choice old (Ok x) new = (sizes : ℕ → ℕ) × LeastSizes (program_of t) (choice_of choice) sizes × Written (entries (program_of t)) sizes old new
+Leaves t choice old (Err r) new = new ≡ old

@@ -1,130 +1,78 @@
 // What a call that is handed a choice and a sizes buffer is refused for.
-ghost use Rattle.std.specs.Prelude.{◌≡◌, ◌<◌};
-ghost use Rattle.table.specs.Scan.{First};
-ghost use Rattle.table.specs.Answer.{Ready};
+ghost use Rattle.std.specs.Prelude.{◌≡◌, ◌<◌, IfOk};
+ghost use Rattle.table.specs.Below.{earliest};
 ghost use Rattle.sizes.specs.Call.{outside, call_result, result_of, table_result};
-ghost use Rattle.sizes.specs.Known.{call, AdmittedFor};
+ghost use Rattle.sizes.specs.Known.{call, KnownFor};
 
-use crate::Answer;
-use rules::Known;
+use program::Program;
 use rules::targets::chosen;
-use sync::synchronising;
-use table::{Checked, Counts};
+use sync::{Known, synchronising};
+use table::refusal::{Cause, Refused};
 
 // Whether the byte of node n is outside its list: 1 to 3 of a spawn, and 0 of any other node.
-fn is_outside(t: &[u8], of: Counts, choice: &[u8], n: usize) -> bool
-    requires { Ready t.now of × (n < of.nodes) }
-    ensures { result ≡ outside t.now choice.now n }
+#[tactic(auto, unfolding(crate::specs::Call::outside))]
+fn is_outside(program: &Program<'_>, choice: &[u8], n: usize) -> bool
+    requires { n < program.now.of.nodes }
+    ensures { result ≡ outside program.now.table.now choice.now n }
 {
-    let spawn = program::sort(t, of, n) == 2;
+    let spawn = program.is_spawn(n);
     let byte = chosen(choice, n);
     !((spawn & (1 <= byte) & (byte <= 3)) | (!spawn & (byte == 0)))
 }
 
-// The first node whose byte is, or the number of nodes.
-fn first_outside(t: &[u8], of: Counts, choice: &[u8]) -> usize
-    requires { Ready t.now of }
-    ensures { First (outside t.now choice.now) of.nodes result }
+// The first node whose byte is.
+fn first_outside(program: &Program<'_>, choice: &[u8]) -> Option<usize>
+    ensures { result ≡ earliest (outside program.now.table.now choice.now) program.now.of.nodes }
 {
-    let mut n: usize = 0;
-    while n < of.nodes {
-        if is_outside(t, of, choice, n) {
-            return n;
+    for n in 0..program.of.nodes {
+        if is_outside(program, choice, n) {
+            return Some(n);
         }
-        n += 1;
     }
-    n
+    None
 }
 
 // Judges the choice and the length of the sizes buffer.
-fn judge(t: &[u8], of: Counts, choice: &[u8], buffer: usize) -> Answer
-    requires { Ready t.now of }
-    ensures { result_of result ≡ call_result (call t.now choice.now buffer) }
+fn judge(program: &Program<'_>, choice: &[u8], buffer: usize) -> Result<(), Refused>
+    ensures { result_of result ≡ call_result (call program.now.table.now choice.now buffer) }
 {
-    let nodes = of.nodes;
+    let nodes = program.of.nodes;
     if choice.len() != nodes {
-        return Answer::Refused(9, nodes);
+        return Err(Refused {
+            cause: Cause::Choice,
+            place: nodes,
+        });
     }
-    let n = first_outside(t, of, choice);
-    if n < nodes {
-        return Answer::Refused(9, n);
+    if let Some(place) = first_outside(program, choice) {
+        return Err(Refused {
+            cause: Cause::Choice,
+            place,
+        });
     }
-    let needed = 4 * (of.functions + nodes);
+    let needed = 4 * (program.of.functions + nodes);
     if buffer < needed {
-        return Answer::Refused(11, needed);
+        return Err(Refused {
+            cause: Cause::Sizes,
+            place: needed,
+        });
     }
-    Answer::Done
+    Ok(())
 }
 
-// What is known of a table: its counts, and what only the crates below look into.
-#[derive(Clone, Copy)]
-pub struct Seen {
-    pub of: Counts,
-    pub known: Known,
-}
-
-// A call's refusal, if there is one, and what is known of its table.
-#[derive(Clone, Copy)]
-pub struct Admitted {
-    pub answer: Answer,
-    pub seen: Seen,
-}
-
-// Looks at a table: its refusal, if there is one, and what is known of it.
-pub fn look(t: &[u8]) -> Admitted
-    ensures answer { result_of result.answer ≡ table_result t.now }
-    ensures seen { AdmittedFor t.now result.answer result.seen }
+// Looks at a table: what it is refused for, or what is known of it.
+pub fn look(t: &[u8]) -> Result<Known<'_>, Refused>
+    ensures answer { result_of result ≡ table_result t.now }
+    ensures known { IfOk result (KnownFor t.now) }
 {
-    let found = synchronising(t);
-    let checked = found.checked;
-    let set = found.synchronising;
-    let reached = found.reached;
-    match checked {
-        Checked::Accepted(of) => Admitted {
-            answer: Answer::Done,
-            seen: Seen {
-                of,
-                known: Known {
-                    of,
-                    synchronising: set,
-                    reached,
-                },
-            },
-        },
-        Checked::Refused(number, place) => {
-            let of = Counts {
-                functions: 0,
-                nodes: 0,
-                edges: 0,
-            };
-            Admitted {
-                answer: Answer::Refused(number, place),
-                seen: Seen {
-                    of,
-                    known: Known {
-                        of,
-                        synchronising: set,
-                        reached,
-                    },
-                },
-            }
-        }
-    }
+    synchronising(t)
 }
 
 // Judges a call with a sizes buffer of so many numbers.
-pub fn admit(t: &[u8], choice: &[u8], buffer: usize) -> Admitted
-    ensures answer { result_of result.answer ≡ call_result (call t.now choice.now buffer) }
-    ensures seen { AdmittedFor t.now result.answer result.seen }
+pub fn admit<'a>(t: &'a [u8], choice: &[u8], buffer: usize) -> Result<Known<'a>, Refused>
+    ensures answer { result_of result ≡ call_result (call t.now choice.now buffer) }
+    ensures known { IfOk result (KnownFor t.now) }
 {
-    let looked = look(t);
-    let seen = looked.seen;
-    let answer = looked.answer;
-    match answer {
-        Answer::Done => Admitted {
-            answer: judge(t, seen.of, choice, buffer),
-            seen,
-        },
-        Answer::Refused(_, _) => looked,
-    }
+    let known = look(t)?;
+    judge(&known.program, choice, buffer)?;
+    Ok(known)
 }

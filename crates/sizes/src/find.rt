@@ -1,94 +1,61 @@
 // The least sizes of a choice.
 ghost use Rattle.std.specs.Prelude.{map, ◌≤◌, length};
 ghost use Rattle.table.specs.Program.{program_of};
+ghost use Rattle.sync.specs.Found.{Looked};
 ghost use Rattle.size.specs.Size.{value_of};
 ghost use Rattle.size.specs.Numbers.{at, Written};
-ghost use Rattle.solver.specs.Words.{Named};
-ghost use Rattle.solver.specs.Values.{starts_from};
 ghost use Rattle.rules.specs.Rules.{entries};
-ghost use Rattle.listed.specs.Listed.{given, Lists};
-ghost use Rattle.sizes.specs.Known.{Looked};
-ghost use Rattle.sizes.specs.Trials.{DerivedFor, FoundFor};
+ghost use Rattle.listed.specs.Listed.{slots};
+ghost use Rattle.sizes.specs.Trials.{FoundFor};
 
 use listed::list::{list_rules, room};
-use rules::Known;
+use program::Program;
 use size::Size;
-use solver::solve;
+use solver::solution::Solution;
+use sync::Known;
 
-// Writes the first sizes as numbers, at the buffer's edge.
-fn write_sizes(sizes: [Size; 2304], count: usize, out: &mut [u32])
-    requires { (count ≤ 2304) × (count ≤ length out.old) }
-    ensures { Written count (at (map value_of sizes)) out.old out.new }
+// Writes sizes as numbers, at the buffer's edge.
+fn write_sizes(sizes: &[Size], out: &mut [u32])
+    requires { length sizes.now ≤ length out.old }
+    ensures { Written (length sizes.now) (at (map value_of sizes.now)) out.old out.new }
 {
-    let mut i: usize = 0;
-    while i < count {
-        let size = sizes[i];
-        out[i] = size.number();
-        i += 1;
+    for (i, size) in sizes.iter().enumerate() {
+        out[i] = u32::from(*size);
     }
 }
 
-// The least sizes of a choice whose rules are listed, from sizes that they derive: the first of the numbers there are, and zeros.
-pub(crate) fn settle(
-    t: &[u8],
-    choice: &[u8],
-    known: Known,
-    rules: &[u64],
-    count: usize,
-    taken: usize,
-    numbers: &[u32],
-    out: &mut [u32],
-    after: &mut [u32],
-    before: &mut [u32],
-    passes: &mut u32,
-)
-    requires looked { Looked t.now known }
-    requires count_in_bounds { (count ≤ length rules.now) × (count ≤ 8384) × Named rules.now count × Lists (given t.now choice.now known) rules.now count }
-    requires taken_bound { (taken ≤ entries (program_of t.now)) × (taken ≤ length numbers.now) × DerivedFor t.now known (at choice.now) (starts_from taken numbers.now) }
-    requires t_in_bounds { (entries (program_of t.now) ≤ length out.old) × (512 ≤ length after.old) × (512 ≤ length before.old) }
-    ensures { FoundFor t.now known (at choice.now) out.old out.new after.new before.new }
+// Writes those of a table.
+pub fn write(program: &Program<'_>, found: &Solution, out: &mut [u32])
+    requires { entries (program_of program.now.table.now) ≤ length out.old }
+    ensures { Written (entries (program_of program.now.table.now)) (at (map value_of found.now.sizes)) out.old out.new }
 {
-    let sizes = solve(
-        rules,
-        count,
-        known.of.nodes,
-        taken,
-        numbers,
-        after,
-        before,
-        passes,
-    );
-    write_sizes(sizes, 4 * (known.of.functions + known.of.nodes), out);
+    let count = 4 * (program.of.functions + program.of.nodes);
+    write_sizes(&found.sizes()[..count], out);
 }
 
-// The least sizes of a choice, from zeros, written over the first numbers. Beside them it writes the sums of nodes that safety asks for,
-// and how many passes it took; of that number nothing is promised, and programs with stored output hold it. A table of few rules gets a
-// small list: a large one would take longer to clear than all the rest.
-pub fn find(
-    t: &[u8],
-    choice: &[u8],
-    known: Known,
-    out: &mut [u32],
-    after: &mut [u32],
-    before: &mut [u32],
-    passes: &mut u32,
-)
-    requires looked { Looked t.now known }
-    requires t_in_bounds { (entries (program_of t.now) ≤ length out.old) × (512 ≤ length after.old) × (512 ≤ length before.old) }
-    ensures { FoundFor t.now known (at choice.now) out.old out.new after.new before.new }
+// The least sizes, in N words of rules.
+fn find_in<const N: usize>(known: &Known<'_>, choice: &[u8]) -> Solution
+    requires looked { Looked known.now }
+    requires room { (slots known.now.program.of ≤ N) × (N ≤ 8384) }
+    ensures { FoundFor known.now (at choice.now) result }
 {
-    let none = [0u32; 1];
-    if room(known.of) <= 256 {
-        let mut rules = [0u64; 256];
-        let count = list_rules(t, choice, known, &mut rules);
-        settle(
-            t, choice, known, &rules, count, 0, &none, out, after, before, passes,
-        );
+    let mut rules = [0u64; N];
+    let count = list_rules(known, choice, &mut rules);
+    let mut found = Solution::starting(&[]);
+    found.solve(&rules[..count]);
+    found
+}
+
+// The least sizes of a choice, from zeros, with the sums of nodes that safety asks for, and how many turns it took; of that number
+// nothing is promised, and programs with stored output hold it. A table of few rules gets a small list: a large one would take
+// longer to clear than all the rest.
+pub fn find(known: &Known<'_>, choice: &[u8]) -> Solution
+    requires { Looked known.now }
+    ensures { FoundFor known.now (at choice.now) result }
+{
+    if room(known.program.of) <= 256 {
+        find_in::<256>(known, choice)
     } else {
-        let mut rules = [0u64; 8384];
-        let count = list_rules(t, choice, known, &mut rules);
-        settle(
-            t, choice, known, &rules, count, 0, &none, out, after, before, passes,
-        );
+        find_in::<8384>(known, choice)
     }
 }

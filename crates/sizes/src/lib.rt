@@ -10,40 +10,25 @@ ghost use Rattle.sizes.specs.Call.{call_result, result_of, Leaves};
 ghost use Rattle.sizes.specs.Known.{call};
 
 use admit::admit;
-use find::find;
-
-// What a call comes to: `result_of` in specs/Call.antt says what each case stands for.
-#[derive(Clone, Copy)]
-pub enum Answer {
-    Done,
-    Refused(u32, usize),
-}
+use find::{find, write};
+use table::refusal::Refused;
 
 // Writes the sizes of a choice: for each function and then each node Total, Post, Pre, Through, unbounded as 65,536.
-pub fn sizes(t: &[u8], choice: &[u8], out: &mut [u32]) -> Answer
+pub fn sizes(t: &[u8], choice: &[u8], out: &mut [u32]) -> Result<(), Refused>
     ensures answer { result_of result ≡ call_result (call t.now choice.now (length out.old)) }
     ensures leaves { Leaves t.now choice.now out.old result out.new }
 {
-    let mut passes: u32 = 0;
-    counted(t, choice, out, &mut passes)
+    counted(t, choice, out)?;
+    Ok(())
 }
 
-// The same, and how many passes it took; of that number nothing is promised.
-pub fn counted(t: &[u8], choice: &[u8], out: &mut [u32], passes: &mut u32) -> Answer
+// The same, and how many turns over the rules it took; of that number nothing is promised.
+pub fn counted(t: &[u8], choice: &[u8], out: &mut [u32]) -> Result<u32, Refused>
     ensures answer { result_of result ≡ call_result (call t.now choice.now (length out.old)) }
     ensures leaves { Leaves t.now choice.now out.old result out.new }
 {
-    let admitted = admit(t, choice, out.len());
-    let seen = admitted.seen;
-    let answer = admitted.answer;
-    match answer {
-        Answer::Refused(number, place) => Answer::Refused(number, place),
-        Answer::Done => {
-            let mut after = [0u32; 512];
-            let mut before = [0u32; 512];
-            let known = seen.known;
-            find(t, choice, known, out, &mut after, &mut before, passes);
-            Answer::Done
-        }
-    }
+    let known = admit(t, choice, out.len())?;
+    let found = find(&known, choice);
+    write(&known.program, &found, out);
+    Ok(found.turns())
 }

@@ -2,13 +2,16 @@
 use Prim.Native.Nat.{ℕ, zero, suc, ◌+◌, ◌<◌, ◌≤◌, max}
 use mathlib.Core.Path.{◌≡◌, refl, sym, ap, ◌∙◌, subst}
 use mathlib.Core.List.{List, [], ◌∷◌}
-use mathlib.Core.Logic.{◌≢◌}
+use mathlib.Core.Logic.{inl, inr}
+use lib.ListN.{length, set}
+use lib.Seq.{get_or-set_same, get_or-set_other}
 use native.Mathlib.Omega.{arith}
 use native.Mathlib.Decide.{ℕ_discrete, dec_le}
 use Rattle.size.specs.Size.{unbounded, cap}
+use Rattle.size.specs.Numbers.{at}
 use Rattle.solver.specs.System.{Form, sum_of, gives, Derives, none, rule}
 use Rattle.solver.specs.Words.{entry_count}
-use Rattle.solver.specs.Causes.{Lead, Ok, Chain, met, via}
+use Rattle.solver.specs.Causes.{Lead, Ok, Chain, met, via, uncaused, Put, Risen, rises, leaps}
 
 -- ---- sums of values
 
@@ -108,10 +111,8 @@ chain_low (via h c) = h
 
 -- ---- values and causes, changed at one entry
 
--- w is v but for t at x
-pub record Put (v : ℕ → ℕ) (x t : ℕ) (w : ℕ → ℕ) : Type 0 where
-  pub there : w x ≡ t
-  pub other : (y : ℕ) → y ≢ x → w y ≡ v y
+pub put_set : (l : List ℕ) (x c : ℕ) → x < length l → Put (at l) x c (at (set l x c))
+put_set l x c h = record { there = get_or-set_same l x c 0 h; other = λ y n. get_or-set_other l x y c 0 n }
 
 pub put_below : {v w : ℕ → ℕ} {x t : ℕ} → Put v x t w → v x ≤ t → Below v w
 put_below {v} {w} {x} {t} p h y = go (ℕ_discrete y x)
@@ -156,12 +157,26 @@ module _ {R : Type 0} (form : R → Form ℕ) where
     lead_by y i = rule_lead form ℕ_discrete v o.sound r y i
 
     -- a plain rise
-    pub risen_ok : {w l : ℕ → ℕ} (c : ℕ) → v x ≤ gives v (form r) → In c (form r).body → Put v x (gives v (form r)) w → Put k x c l → Ok form w l
+    risen_ok : {w l : ℕ → ℕ} (c : ℕ) → v x ≤ gives v (form r) → In c (form r).body → Put v x (gives v (form r)) w → Put k x c l → Ok form w l
     risen_ok c h i p q = put_ok x (gives v (form r)) c o h (rule {t = gives v (form r)} r v refl o.sound (omega arith)) (λ j. lead_by c i) p q
 
     -- a rise of what caused itself
-    pub leapt_ok : {w l : ℕ → ℕ} (y c : ℕ) → v x < gives v (form r) → In y (form r).body → Chain k x y → entry_count ≤ c → Put v x unbounded w → Put k x c l → Ok form w l
+    leapt_ok : {w l : ℕ → ℕ} (y c : ℕ) → v x < gives v (form r) → In y (form r).body → Chain k x y → entry_count ≤ c → Put v x unbounded w → Put k x c l → Ok form w l
     leapt_ok y c h i b e p q =
         put_ok x unbounded c o (der_le form (o.sound x))
         (pump form x (gives v (form r)) (v x) (lead_trans form (lead_by y i) (chain_lead o b)) h)
         (λ j. absurd (omega arith)) p q
+
+  -- what a rule does that asks for more than there is
+  module _ {v w k l : ℕ → ℕ} {t : ℕ} (o : Ok form v k) (r : R) where
+    leap_ok : (y : ℕ) → In y (form r).body → v (form r).head < gives v (form r) → Chain k (form r).head y → Put k (form r).head uncaused l → t ≡ unbounded → Put v (form r).head t w → Ok form w l
+    leap_ok y i m c q e p = leapt_ok o r y uncaused m i c (omega arith) (rw e at p) q
+
+    rise_here : (y z : ℕ) → In y (form r).body → In z (form r).body → v (form r).head < gives v (form r) → Risen k (form r).head y z (gives v (form r)) l t → Put v (form r).head t w → Ok form w l
+    rise_here y z i j m (rises c (inl e) q f) p = risen_ok o r c (omega arith) (rw e i) (rw f at p) q
+    rise_here y z i j m (rises c (inr e) q f) p = risen_ok o r c (omega arith) (rw e j) (rw f at p) q
+    rise_here y z i j m (leaps (inl c) q f) p = leap_ok y i m c q f p
+    rise_here y z i j m (leaps (inr c) q f) p = leap_ok z j m c q f p
+
+    pub rise_ok : (f : Form ℕ) (y z : ℕ) → f ≡ form r → In y f.body → In z f.body → v f.head < gives v f → Risen k f.head y z (gives v f) l t → Put v f.head t w → Ok form w l
+    rise_ok f y z e = subst (λ (g : Form ℕ). In y g.body → In z g.body → v g.head < gives v g → Risen k g.head y z (gives v g) l t → Put v g.head t w → Ok form w l) (sym e) (rise_here y z)

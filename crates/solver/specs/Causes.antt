@@ -1,7 +1,6 @@
 -- Causes: for each entry, the entry of its rule that made it rise last. An entry that would rise because of itself is unbounded. Helps proofs only.
-use Rattle.std.specs.Prelude.{ℕ, ◌+◌, ◌<◌, ◌≤◌, ◌≡◌, List, ◌⊎◌, set}
+use Rattle.std.specs.Prelude.{ℕ, ◌+◌, ◌<◌, ◌≤◌, ◌≡◌, ◌≢◌, ◌⊎◌}
 use Rattle.size.specs.Size.{unbounded, cap}
-use Rattle.size.specs.Numbers.{at}
 use Rattle.solver.specs.System.{Form, Derives}
 use Rattle.solver.specs.Words.{entry_count}
 
@@ -25,7 +24,12 @@ pub data Chain (k : ℕ → ℕ) (z : ℕ) : ℕ → Type 0 where
 abbrev pub uncaused : ℕ
 uncaused = 65535
 
--- What a rule that asks for sum at entry x, more than it has, from the entries y and z does to the causes k, to the value and to the clock.
-pub data Risen (k : List ℕ) (x y z sum clock : ℕ) (l : List ℕ) (v after : ℕ) : Type 0 where
-  rises : (c : ℕ) → (c ≡ y) ⊎ (c ≡ z) → l ≡ set k x c → v ≡ sum → after ≡ clock + 1 → Risen k x y z sum clock l v after
-  leaps : Chain (at k) x y ⊎ Chain (at k) x z → l ≡ set k x uncaused → v ≡ unbounded → after ≡ clock + 1 → Risen k x y z sum clock l v after
+-- w is v but for t at x
+pub record Put (v : ℕ → ℕ) (x t : ℕ) (w : ℕ → ℕ) : Type 0 where
+  pub there : w x ≡ t
+  pub other : (y : ℕ) → y ≢ x → w y ≡ v y
+
+-- What a rule that asks for sum at entry x, more than it has, from the entries y and z does to the causes k and to the value.
+pub data Risen (k : ℕ → ℕ) (x y z sum : ℕ) (l : ℕ → ℕ) (v : ℕ) : Type 0 where
+  rises : (c : ℕ) → (c ≡ y) ⊎ (c ≡ z) → Put k x c l → v ≡ sum → Risen k x y z sum l v
+  leaps : Chain k x y ⊎ Chain k x z → Put k x uncaused l → v ≡ unbounded → Risen k x y z sum l v

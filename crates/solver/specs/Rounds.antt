@@ -1,64 +1,72 @@
 -- A turn over the rules, rule by rule. Helps proofs only.
-use Rattle.std.specs.Prelude.{ℕ, ◌+◌, ◌-◌, ◌*◌, ◌<◌, ◌≤◌, min, ◌≡◌, List, [], ◌∷◌, ◌⊎◌, length}
+use Rattle.std.specs.Prelude.{ℕ, zero, suc, ◌+◌, ◌-◌, ◌<◌, ◌≤◌, min, ◌≡◌, Bool, true, false, List, [], ◌∷◌, ◌⊎◌, Option, Some, None, unwrap_or, length}
 use Rattle.size.specs.Size.{unbounded}
 use Rattle.size.specs.Numbers.{at}
-use Rattle.solver.specs.System.{gives}
-use Rattle.solver.specs.Words.{entry_count, head_of, part_of, other_of, base_of, second_of, word_form, item_form}
-use Rattle.solver.specs.Causes.{Ok}
-use Rattle.solver.specs.Values.{Values, size_place, sum_place, value_at}
-use Rattle.solver.specs.declared.turns.Rule.{Rule}
+use Rattle.solver.specs.System.{Form, gives}
+use Rattle.solver.specs.Words.{entry_count, head_of, word_form, item_form}
+use Rattle.solver.specs.Causes.{Ok, Put, Risen}
+use Rattle.solver.specs.declared.causes.Causes.{Causes}
+use Rattle.solver.specs.declared.rule.Rule.{Rule}
 
--- The code's numbers for the rule that a word says: its entries, and their places in the arrays.
-pub record Unpacked (w : ℕ) (r : Rule) : Type 0 where
-  pub head_is : r.head ≡ head_of w
-  pub base_is : r.base ≡ base_of w
-  pub part_is : r.part ≡ part_of w
-  pub other_is : r.other ≡ other_of w
-  pub second_is : r.second ≡ second_of w
-  pub head_sum_is : r.headsum ≡ sum_place (head_of w)
-  pub part_sum_is : r.partsum ≡ sum_place (part_of w)
-  pub other_size_is : r.othersize ≡ size_place (other_of w)
-  pub head_sum_low : r.headsum < 512
-  pub part_sum_low : r.partsum < 512
-  pub other_size_low : r.othersize < 2304
+-- What a rule of the code says: the same as its word.
+abbrev pub others_of : Option ℕ → List ℕ
+others_of (Some z) = z ∷ []
+others_of None = []
 
--- what is left to rise
-abbrev pub room : List ℕ → ℕ
-room [] = 0
-room (x ∷ l) = (unbounded - x) + room l
+abbrev pub rule_form : Rule → Form ℕ
+rule_form r = record { head = r.head; base = r.base; body = r.part ∷ others_of r.other }
 
-abbrev pub room_of : Values → ℕ
-room_of v = room v.sizes + room v.after + room v.before + room v.through
+-- the other entry is a size
+abbrev pub AmongSizes : Option ℕ → Type 0
+AmongSizes (Some z) = z < 2304
+AmongSizes None = Unit {0}
 
--- The arrays are as long as they should be.
-pub record Long (v : Values) (k : List ℕ) : Type 0 where
-  pub sizes_long : length v.sizes ≡ 2304
-  pub after_long : length v.after ≡ 512
-  pub before_long : length v.before ≡ 512
-  pub through_long : length v.through ≡ 512
-  pub causes_long : length k ≡ entry_count
+-- the cause of each entry
+abbrev pub cause_at : Causes → ℕ → ℕ
+cause_at c = at c.causes
+
+-- the second entry of a rule's body, or the first again
+abbrev pub second_of : Rule → ℕ
+second_of r = unwrap_or r.other r.part
+
+-- What a rule does to the values and the causes, and whether its head rises: it does if the rule asks for more than there is.
+pub data Applied (r : Rule) (v : ℕ → ℕ) (k : ℕ → ℕ) (w : ℕ → ℕ) (l : ℕ → ℕ) : Bool → Type 0 where
+  held : gives v (rule_form r) ≤ v r.head → w ≡ v → l ≡ k → Applied r v k w l false
+  rose : (t : ℕ) → v r.head < gives v (rule_form r) → Risen k r.head r.part (second_of r) (gives v (rule_form r)) l t → Put v r.head t w → Applied r v k w l true
+
+-- what is left to rise in the first n entries
+unfoldable pub room : ℕ → (ℕ → ℕ) → ℕ
+room zero v = 0
+room (suc n) v = room n v + (unbounded - v n)
 
 -- The j-th rule holds.
-abbrev pub Held : List ℕ → Values → ℕ → Type 0
-Held rules v j = gives (value_at v) (word_form (at rules j)) ≤ value_at v (head_of (at rules j))
+abbrev pub Held : List ℕ → (ℕ → ℕ) → ℕ → Type 0
+Held rules v j = gives v (word_form (at rules j)) ≤ v (head_of (at rules j))
 
--- A turn has come to rule i: values and causes keep the invariant, nothing is below what it started from, and the clock cannot run over. The
--- rules looked at since the last rise hold; `last` is the place behind it. If nothing has risen in this turn, the rules so far hold and those
--- from `end` on: there it may stop. If something has, it goes on to the last rule.
-pub record Round (rules : List ℕ) (count : ℕ) (from : ℕ → ℕ) (i : ℕ) (v : Values) (k : List ℕ) (clock started turns end last : ℕ) : Type 0 where
+-- A turn over the rules has come to rule i, from values v with causes k to w and l: none has fallen. The rules looked at since the last rise
+-- hold, and those from `end` on; `last` is the place behind that rise, or 0. At the end of a turn i and `end` are the number of rules.
+pub record Turn (rules : List ℕ) (v : ℕ → ℕ) (k : ℕ → ℕ) (w : ℕ → ℕ) (l : ℕ → ℕ) (i end last : ℕ) : Type 0 where
   pub places : i ≤ end
-  pub ends : end ≤ count
-  pub lasts : last ≤ count
-  pub later : started ≤ clock
-  pub few : turns ≤ started + 1
-  pub bound : clock + room_of v ≤ 251658240
-  pub long : Long v k
-  pub ok : Ok (item_form rules count from) (value_at v) (at k)
-  pub above : (x : ℕ) → from x ≤ value_at v x
-  pub since : (j : ℕ) → last ≤ j → j < i → Held rules v j
-  pub held : clock ≡ started → (j : ℕ) → j < count → (j < i) ⊎ (end ≤ j) → Held rules v j
-  pub whole : (clock ≡ started → ⊥) → end ≡ count
+  pub ends : end ≤ length rules
+  pub lasts : last ≤ i
+  pub ok : (from : ℕ → ℕ) → Ok (item_form rules (length rules) from) v k → Ok (item_form rules (length rules) from) w l
+  pub up : (x : ℕ) → v x ≤ w x
+  pub falls : room entry_count w + min 1 last ≤ room entry_count v
+  pub held : (j : ℕ) → last ≤ j → j < length rules → (j < i) ⊎ (end ≤ j) → Held rules w j
 
--- What falls: with a rise what is left to rise, with a turn that raised something that it did, and with a rule those that are left in the turn.
-abbrev pub left : ℕ → ℕ → Values → ℕ → ℕ → ℕ
-left count i v clock started = 10000 * (room_of v + min 1 (clock - started)) + (count - i)
+-- that turn is over
+abbrev pub Turned : List ℕ → (ℕ → ℕ) → (ℕ → ℕ) → (ℕ → ℕ) → (ℕ → ℕ) → ℕ → Type 0
+Turned rules v k w l last = Turn rules v k w l (length rules) (length rules) last
+
+-- the rules from a place on hold
+abbrev pub HeldFrom : List ℕ → (ℕ → ℕ) → ℕ → Type 0
+HeldFrom rules v i = (j : ℕ) → i ≤ j → j < length rules → Held rules v j
+
+-- After some turns: values and causes keep the invariant, nothing is below what it started from, the rules from `stop` on hold, and the
+-- turns that are counted are few.
+pub record Settling (rules : List ℕ) (from v : ℕ → ℕ) (k : ℕ → ℕ) (stop turns : ℕ) : Type 0 where
+  pub ok : Ok (item_form rules (length rules) from) v k
+  pub above : (x : ℕ) → from x ≤ v x
+  pub stops : stop ≤ length rules
+  pub held : HeldFrom rules v stop
+  pub few : turns + room entry_count v ≤ 251658240

@@ -26,10 +26,6 @@ base_of w = w / 68719476736
 abbrev pub others : ℕ → List ℕ
 others z = cond (ltb z 2304) (z ∷ []) []
 
--- the second entry of a rule's body, or the first again
-abbrev pub second_of : ℕ → ℕ
-second_of w = cond (ltb (other_of w) 2304) (other_of w) (part_of w)
-
 -- what a word says
 abbrev pub word_form : ℕ → Form ℕ
 word_form w = record { head = head_of w; base = base_of w; body = part_of w ∷ others (other_of w) }

@@ -4,11 +4,15 @@
 use script::read_full;
 use std::io;
 
+// How many bytes the longest table has.
+const LONGEST: usize = 12800;
+
 fn main(rt: HostRuntime) -> io::Result<()> {
-    let mut buffer = [0u8; 12801];
-    let n = read_full(&mut rt.stdin(), &mut buffer)?;
-    if 12800 < n {
+    // one byte more than the longest table, so that a longer input is seen to be one
+    let mut buffer = [0u8; LONGEST + 1];
+    let bytes = read_full(&mut rt.stdin(), &mut buffer)?;
+    if bytes.len() > LONGEST {
         return println!(rt; "too long");
     }
-    report::checked(&mut rt.stdout(), table::check(&buffer[..n]))
+    report::checked(&mut rt.stdout(), table::check(bytes))
 }

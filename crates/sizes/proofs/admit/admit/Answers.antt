@@ -1,21 +1,11 @@
-use mathlib.Core.Path.{ap, ◌∙◌}
-use Rattle.sizes.specs.Call.{call_result, call_checks, result_of}
+use Rattle.std.proofs.lemmas.Result.{err_from_is_err_and}
+use Rattle.sizes.specs.Call.{call_checks, call_result}
 use Rattle.sizes.specs.Known.{call}
-use Rattle.sizes.proofs.Calls.{table_refused, still_known}
-use Rattle.sizes.proofs.Trying.{seen_ready}
+use Rattle.sizes.proofs.Calls.{table_refused}
 use Rattle.sizes.proofs.admit.admit.Goals as goal
 
-pub judge-requires : goal.judge-requires
-judge-requires c = seen_ready (rw c.in-Done.is at c.look-looked.ensures.seen)
-
-pub returns-in-Done : goal.returns-in-Done
-returns-in-Done c =
-    let a = c.args in
-    record { answer = c.judge.ensures; seen = still_known a.t.now c.judge.result c.look-looked.result.seen (rw c.in-Done.is at c.look-looked.ensures.seen) }
-
-pub returns-in-Refused : goal.returns-in-Refused
+pub returns-in_err-known-clause-answer : goal.returns-in_err-known-clause-answer
 unfolding call_result call_checks
-returns-in-Refused c =
-    let a = c.args in
-    let e = c.in-Refused.is in
-    record { answer = ap result_of e ∙ table_refused _ _ (call a.t.now a.choice.now a.buffer) (rw e at c.look-looked.ensures.answer); seen = c.look-looked.ensures.seen }
+returns-in_err-known-clause-answer c =
+    let e = err_from_is_err_and c.from_residual.result c.from_residual.ensures.1 in
+    rw (e.1, e.2) (table_refused _ _ (call c.args.t.now c.args.choice.now c.args.buffer) c.in_err-known.ensures.answer)

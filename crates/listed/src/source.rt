@@ -1,0 +1,14 @@
+// What rules are listed from.
+ghost use Rattle.listed.specs.Within.{AllWithin};
+
+use rule_order::Orders;
+use sync::Known;
+
+// What is known of a program, a choice, and the orders of the program's functions, nodes and edges.
+#[derive(Clone, Copy)]
+pub(crate) struct Source<'a> {
+    pub known: &'a Known<'a>,
+    pub choice: &'a [u8],
+    pub orders: &'a Orders,
+    ghost all_within: { AllWithin known.now.program.of orders.now },
+}

@@ -1,1 +1,0 @@
--- How the promises come about.

@@ -1,0 +1,4 @@
+-- What is believed.
+pub mod Line
+pub mod Records
+pub mod State

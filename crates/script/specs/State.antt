@@ -1,0 +1,24 @@
+-- What the lines of a script come to, one after another.
+use Rattle.std.specs.Prelude.{◌≡◌, [], ◌++◌, replicate}
+use Rattle.script.specs.declared.Line.{Line}
+use Rattle.script.specs.declared.Line.TheVariants.{Comment, Call, Table, Bytes, Records, Run}
+use Rattle.script.specs.declared.State.{State}
+use Rattle.script.specs.Records.{records_before}
+
+abbrev pub SameCall : State → State → Type 0
+SameCall old new = new.call.now ≡ old.call.now
+
+abbrev pub SameName : State → State → Type 0
+SameName old new = new.name.now ≡ old.name.now
+
+abbrev pub SameTable : State → State → Type 0
+SameTable old new = new.table.items ≡ old.table.items
+
+-- What a line makes of what was said before it.
+abbrev pub Takes : State → Line → State → Type 0
+Takes old (Comment) new = SameCall old new × SameName old new × SameTable old new
+Takes old (Call call) new = (new.call.now ≡ call.now) × SameName old new × SameTable old new
+Takes old (Table name) new = SameCall old new × (new.name.now ≡ name.now) × (new.table.items ≡ [])
+Takes old (Bytes count) new = SameCall old new × SameName old new × (new.table.items ≡ old.table.items ++ replicate count 0)
+Takes old (Records records) new = SameCall old new × SameName old new × (new.table.items ≡ old.table.items ++ records_before records records.count)
+Takes old (Run _) new = SameCall old new × SameName old new × SameTable old new

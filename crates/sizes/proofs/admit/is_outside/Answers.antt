@@ -1,7 +1,0 @@
-use mathlib.Core.Path.{refl}
-use Rattle.sizes.specs.Call.{outside}
-use Rattle.sizes.proofs.admit.is_outside.Goals as goal
-
-pub returns : goal.returns
-unfolding outside
-returns c = rw (c.sort-spawn.ensures, c.chosen-byte.ensures) refl
