@@ -31,7 +31,7 @@ returns c =
     let r = c.solve.new.self in
     let ready = c.requires.looked.ready in
     let few = few_nodes a.t.now a.known.of ready in
-    found a.t.now a.choice.now a.known c.requires.looked a.taken a.numbers.now _ c.starting-found.ensures r c.solve.ensures c.requires.count_in_bounds.0 c.requires.taken_bound.0 c.requires.count_in_bounds.3 c.requires.taken_bound.2 (entries_are ready)
+    found a.t.now a.choice.now a.known c.requires.looked a.taken a.numbers.now _ c.starting-found.ensures r c.solve.ensures c.requires.count_in_bounds.0 c.requires.taken_bound.0 c.requires.count_in_bounds.3 c.requires.taken_bound.2 (omega (arith, entries_are ready))
     (rw c.sizes.ensures.value at (written_first c.sizes.result.now (omega (arith, entries_are ready, entries_few ready, c.sizes.ensures.len)) c.write_sizes.ensures))
     (rw c.after.ensures.value at (written_first c.after.result.now (omega (arith, few, c.after.ensures.len)) c.write_sizes-2.ensures))
     (rw c.before-2.ensures.value at (written_first c.before-2.result.now (omega (arith, few, c.before-2.ensures.len)) c.write_sizes-3.ensures))
