@@ -1,7 +1,7 @@
 // The preference order by value.
-ghost use Rattle.std.specs.Prelude.{◌≡◌, ◌≤◌, take};
+ghost use Rattle.std.specs.Prelude.{◌≡◌, ◌≤◌, length, take};
 
-// The spawns of a program in the preference order: the first `count` numbers, with zeros behind them. By value, since there is no heap.
+// The spawns of a program in the preference order: the first `count` numbers, with zeros behind them. It is handed out by value, and there is no heap.
 #[derive(Clone, Copy)]
 pub struct Order {
     pub count: usize,
@@ -12,7 +12,8 @@ pub struct Order {
 impl Order {
     // The spawns alone.
     pub fn as_slice(&self) -> &[usize]
-        ensures { result.now ≡ take self.now.count self.now.spawns }
+        ensures len { length result.now ≡ self.now.count }
+        ensures value { result.now ≡ take self.now.count self.now.spawns }
     {
         &self.spawns[..self.count]
     }

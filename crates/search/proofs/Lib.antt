@@ -1,5 +1,5 @@
 -- For the crate above: the choice that a walk starts from, and what fits.
 pub mod Laws
 -- How the promises come about.
+mod Starting
 mod Walking
-mod Merging

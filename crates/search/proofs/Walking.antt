@@ -1,24 +1,24 @@
 -- One spawn more on a walk: what becomes of its verdict.
-use Rattle.std.proofs.Common.{◌≡◌, ℕ, suc, ◌+◌, ◌-◌, ◌<◌, ◌≤◌, Bool, true, false, ◌⊎◌, List, length, set, sym, refl, ap, ◌∙◌, subst, inl, inr, ⊎_elim, eq-or-lt_of_le, arith, length-set, get_or-set_other, get_or-set_same, set-set, eq-eqb, ne_eqb}
+use Rattle.std.proofs.Common.{◌≡◌, ℕ, suc, ◌+◌, ◌-◌, ◌<◌, ◌≤◌, Bool, true, false, cond, ◌⊎◌, List, length, map, set, take, drop, ◌++◌, sym, refl, ap, ◌∙◌, subst, inl, inr, ⊎_elim, eq-or-lt_of_le, arith, get_or-set_other, length-set, get_or-set_same, eq-eqb, ne_eqb}
 use native.Mathlib.Decide.{ℕ_discrete}
-use lib.Seq.{set-get_or}
+use Rattle.std.proofs.lemmas.List.{get_or-map, get_or-take}
+use Rattle.std.proofs.lemmas.List.Edits.{map_over_more}
+use Rattle.std.proofs.lemmas.Grind.{get_or_default_zero}
 use Rattle.table.specs.Record.{spawn}
-use Rattle.table.specs.Answer.{Ready}
-use Rattle.table.specs.Program.{Program, program_of}
-use Rattle.table.specs.declared.Counts.{Counts}
-use Rattle.table.proofs.Booleans.{not_both}
-use Rattle.table.proofs.Ready.{nodes_are}
-use Rattle.size.specs.Numbers.{Written}
-use Rattle.rules.specs.Choice.{AtMost}
+use Rattle.table.specs.Program.{Program}
+use Rattle.table.proofs.Laws.{well_formed}
+use Rattle.size.specs.Numbers.{at}
+use Rattle.rules.specs.Choice.{guarded, AtMost}
 use Rattle.sizes.specs.Call.{choice_of}
-use Rattle.sizes.specs.Trials.{StartsFor, Holds}
+use Rattle.sizes.specs.Trials.{known_program, PreparedFor, StartsFor, Holds}
 use Rattle.sizes.specs.declared.trials.Prepared.{Prepared}
-use Rattle.sizes.proofs.Trying.{holds_start, holds_alike}
+use Rattle.sizes.proofs.Trying.{holds_start, holds_least}
 use Rattle.safety.specs.Safety.{Safe}
 use Rattle.safety.specs.Trial.{Tried, adopted, rejected}
-use Rattle.safety.proofs.Laws.{safe_alike}
+use Rattle.safety.proofs.Laws.{unmerged_safe}
 use Rattle.preference.specs.Preference.{InOrder}
-use Rattle.search.specs.Walk.{raised_to, OthersZero, Attempted, raised, kept, TriedAll, all_raised, all_kept, Walked}
+use Rattle.search.specs.Walk.{Unmerged, raised_to, OthersZero, Walked, Merged}
+use Rattle.search.proofs.Laws.{nothing_merged}
 
 -- the last of the first i + 1, or one before it
 last_or_before : (j i : ℕ) → j < i + 1 → (j ≡ i) ⊎ (j < i)
@@ -116,28 +116,6 @@ walked_all g k count order from up o h zero e s = record {
         is_spawn_lem (yes b) = b
         is_spawn_lem (no b) = absurd (omega (arith, zero n l b))
 
--- so a trial of all at once that says so is a walk, and one that does not leaves the bytes as they were
-module _ (t : List ℕ) (of : Counts) (r : Ready t of) (k : ℕ) (old new : List ℕ) where
-  pub tried_none : (done : Bool) → TriedAll (program_of t) k old new done → done ≡ false → new ≡ old
-  tried_none done (all_raised d s w) x = not_both done d x
-  tried_none done (all_kept d e) x = e
-
-  pub walked_at_once : (count : ℕ) (order : ℕ → ℕ) → InOrder (program_of t) count order → 2 ≤ k → OthersZero (program_of t) (choice_of old) → (done : Bool) → TriedAll (program_of t) k old new done → done ≡ true → Walked (program_of t) k count order (choice_of old) (choice_of new) × Written of.nodes (choice_of new) old new
-  walked_at_once count order o h zero done (all_kept d e) x = not_both done x d
-  walked_at_once count order o h zero done (all_raised d s w) x = (
-    walked_all (program_of t) k count order (choice_of old) (choice_of new) o h zero w.written s,
-    record {
-      long = w.long;
-      written = λ n l. refl;
-      tail = λ n l. w.tail n (omega (arith, nodes_are t of r));
-    },
-  )
-
--- where nothing was written, a walk begins where it was
-pub walked_from : (g : Program) (k count nodes : ℕ) (order : ℕ → ℕ) {old new last : List ℕ} → new ≡ old → Walked g k count order (choice_of new) (choice_of last) → Written nodes (choice_of last) new last → Walked g k count order (choice_of old) (choice_of last) × Written nodes (choice_of last) old last
-walked_from g k count nodes order {last = last} e w v =
-    (subst (λ (l : List ℕ). Walked g k count order (choice_of l) (choice_of last)) e w, subst (λ (l : List ℕ). Written nodes (choice_of last) l last) e v)
-
 -- a walk leaves the nodes that are no spawns
 pub others_stay : (g : Program) (k count : ℕ) (order from to : ℕ → ℕ) → InOrder g count order → Walked g k count order from to → OthersZero g from → OthersZero g to
 others_stay g k count order from to o w zero n h s = go (w.moved n h)
@@ -146,95 +124,94 @@ others_stay g k count order from to o w zero n h s = go (w.moved n h)
     go (inl e) = e ∙ zero n h s
     go (inr (a, b, (j, l, e))) = absurd (s (subst (λ (z : ℕ). g.sort z ≡ spawn) e (o.spawns j l).spawns))
 
--- so a trial takes the walk one spawn further
-module _ (g : Program) (k : ℕ) (order from : ℕ → ℕ) (i : ℕ) (old : List ℕ) (x : order i < g.nodes) (fits : order i < length old) where
-  pub walked_tried : (new : List ℕ) → Walked g k i order from (choice_of old) → suc (choice_of old (order i)) ≡ k → Attempted g (order i) k old new → Walked g k (i + 1) order from (choice_of new)
-  walked_tried new w next (raised s) = walked_raised g k order from i (choice_of old) x w next (choice_of (set old (order i) k)) (get_or-set_same old (order i) k 0 fits) (λ n e. get_or-set_other old (order i) n k 0 e) s
-  walked_tried new w next (kept none) = walked_kept g k order from i (choice_of old) x w next (choice_of (set old (order i) k)) (get_or-set_same old (order i) k 0 fits) (λ n e. get_or-set_other old (order i) n k 0 e) none
+-- ---- trials
 
--- ---- the bytes of a walk
+-- raised verdicts, by node
+pub raised_at : (k : ℕ) (old : List ℕ) (n : ℕ) → n < length old → choice_of (map (raised_to k) old) n ≡ raised_to k (choice_of old n)
+raised_at k old n h = get_or-map (raised_to k) old n 0 0 h
 
--- where its spawns stand among the bytes
-pub order_below : (t : List ℕ) (of : Counts) → Ready t of → (count : ℕ) (order : ℕ → ℕ) → InOrder (program_of t) count order → (i : ℕ) → i < count → order i < of.nodes
-order_below t of r count order o i h = omega (arith, (o.spawns i h).exists, nodes_are t of r)
+few : (p : Prepared) → (known_program p.known).nodes ≤ 512
+few p =
+    let q = p.known.program in
+    omega (arith, q.nodes_are, q.few_nodes)
 
--- the bytes past the nodes are as they were
-pub written_own : (count : ℕ) (l : List ℕ) → Written count (choice_of l) l l
-written_own count l = record { long = refl; written = λ i h. refl; tail = λ i h. refl }
+module _ {p : Prepared} where
+  -- the sizes there are serve for a choice with one verdict raised,
+  pub starts_one : (old : List ℕ) {s : List ℕ} (n k : ℕ) → n < length old → choice_of old n ≤ k → Holds p (choice_of old) s → StartsFor p (choice_of (set old n k)) s
+  starts_one old n k h l z = holds_start (λ m b. go m (ℕ_discrete m n)) z
+    where
+      go : (m : ℕ) → Dec (m ≡ n) → choice_of old m ≤ choice_of (set old n k) m
+      go m (yes e) = omega (arith, ap (choice_of old) e, ap (choice_of (set old n k)) e, get_or-set_same old n k 0 h)
+      go m (no e) = omega (arith, get_or-set_other old n m k 0 e)
 
-pub written_as : {count : ℕ} {numbers : ℕ → ℕ} {old new : List ℕ} → Written count numbers old new → Written count (choice_of new) old new
-written_as w = record { long = w.long; written = λ i h. refl; tail = w.tail }
+  -- and with all raised that wait
+  pub starts_all : (old : List ℕ) {s : List ℕ} (k : ℕ) → 1 ≤ k → (known_program p.known).nodes ≤ length old → Holds p (choice_of old) s → StartsFor p (choice_of (map (raised_to k) old)) s
+  starts_all old k h f z = holds_start (λ n b. go n b (ℕ_discrete (choice_of old n) (k - 1))) z
+    where
+      go : (n : ℕ) → n < (known_program p.known).nodes → Dec (choice_of old n ≡ k - 1) → choice_of old n ≤ choice_of (map (raised_to k) old) n
+      go n b (yes q) =
+          let r : raised_to k (choice_of old n) ≡ k = rw (eq-eqb (choice_of old n) (k - 1) q) refl in
+          omega (arith, raised_at k old n (omega arith), r)
+      go n b (no q) =
+          let r : raised_to k (choice_of old n) ≡ choice_of old n = rw (ne_eqb (choice_of old n) (k - 1) q) refl in
+          omega (arith, raised_at k old n (omega arith), r)
 
-pub written_tried : (g : Program) (n k count : ℕ) (first old new : List ℕ) → n < count → Attempted g n k old new → Written count (choice_of old) first old → Written count (choice_of new) first new
-written_tried g n k count first old new h (raised s) w = record {
-  long = length-set old n k ∙ w.long;
-  written = λ i l. refl;
-  tail = λ i l. get_or-set_other old n i k 0 (λ e. absurd (omega arith)) ∙ w.tail i l;
-}
-written_tried g n k count first old new h (kept none) w = w
+  -- whether a trial is adopted or not, the numbers are the sizes of the choice that there is then
+  pub tried_holds : (old choice : List ℕ) {new s t : List ℕ} {r : Bool} → Tried p (choice_of choice) s t r → new ≡ cond r choice old → Holds p (choice_of old) s → Holds p (choice_of new) t
+  tried_holds old choice (adopted y x z) e h = rw (e, y) z
+  tried_holds old choice (rejected y x q) e h = rw (e, y, q) h
 
-pub written_twice : (count : ℕ) (numbers : ℕ → ℕ) (a b c : List ℕ) → Written count numbers a b → Written count (choice_of c) b c → Written count (choice_of c) a c
-written_twice count numbers a b c v w = record {
-  long = w.long ∙ v.long;
-  written = λ i h. refl;
-  tail = λ i h. w.tail i h ∙ v.tail i h;
-}
+  -- the walk comes to node n, which waits for the verdict k
+  module _ {count : ℕ} {order : ℕ → ℕ} (o : InOrder (known_program p.known) count order) (old : List ℕ) {s : List ℕ} (k i : ℕ) {n x : ℕ} (e : n ≡ order i) (l : i < count) (long : length old ≡ 512) (h : 1 ≤ k) (byte : x ≡ k) (is_next : choice_of old n ≡ k - 1) (holds : Holds p (choice_of old) s) where
+    here : order i < (known_program p.known).nodes
+    here = (o.spawns i l).exists
 
--- ---- a trial, from what it tells
+    fits : order i < length old
+    fits = omega (arith, here, few p)
 
-module _ (t : List ℕ) (p : Prepared) where
-  abbrev g : Program
-  g = program_of t
+    pub next_starts : StartsFor p (choice_of (set old n x)) s
+    next_starts = rw (e, byte) (starts_one old (order i) k fits (omega (arith, ap (choice_of old) e)) holds)
 
-  module _ (n k : ℕ) (old : List ℕ) where
-    -- the sizes there are serve for the larger choice,
-    pub starts_raised : {s : List ℕ} → n < length old → choice_of old n ≤ k → Holds t p (choice_of old) s → StartsFor t p (choice_of (set old n k)) s
-    starts_raised h l z = holds_start (λ m b. go m (ℕ_discrete m n)) z
+    -- and a trial takes it one spawn further
+    pub next_tried : {from : ℕ → ℕ} → (w : Walked (known_program p.known) k i order from (choice_of old)) {new t : List ℕ} {r : Bool} → Tried p (choice_of (set old n x)) s t r → new ≡ cond r (set old n x) old → Walked (known_program p.known) k (i + 1) order from (choice_of new) × Holds p (choice_of new) t × (length new ≡ 512)
+    next_tried {from} w {new} {t} {r} tried taken = (go (rw (e, byte) at tried) (rw (e, byte) at taken), tried_holds old _ tried taken holds, rw taken (lengths r))
       where
-        go : (m : ℕ) → Dec (m ≡ n) → choice_of old m ≤ choice_of (set old n k) m
-        go m (yes e) = omega (arith, ap (choice_of old) e, ap (choice_of (set old n k)) e, get_or-set_same old n k 0 h)
-        go m (no e) = omega (arith, get_or-set_other old n m k 0 e)
+        next : suc (choice_of old (order i)) ≡ k
+        next = omega (arith, ap (choice_of old) e)
 
-    -- and whether it is adopted decides
-    module _ {s f : List ℕ} {safe : Bool} where
-      pub tried_raised : Tried t p (choice_of (set old n k)) s f safe → safe ≡ true → Attempted g n k old (set old n k) × Holds t p (choice_of (set old n k)) f
-      tried_raised (adopted y x z) e = (raised x, z)
-      tried_raised (rejected y x q) e = not_both safe e y
+        up : (m : ℕ) → (m ≡ order i → ⊥) → choice_of (set old (order i) k) m ≡ choice_of old m
+        up m d = get_or-set_other old (order i) m k 0 d
 
-      pub tried_kept : Tried t p (choice_of (set old n k)) s f safe → safe ≡ false → Holds t p (choice_of old) s → Attempted g n k old (set (set old n k) n (choice_of old n)) × Holds t p (choice_of (set (set old n k) n (choice_of old n))) f
-      tried_kept (adopted y x w) e z = not_both safe y e
-      tried_kept (rejected y x q) e z =
-          subst (λ (v : List ℕ). Attempted g n k old v × Holds t p (choice_of v) f) (sym (set-set old n k (choice_of old n) ∙ set-get_or old n 0))
-          (kept x, subst (Holds t p (choice_of old)) (sym q) z)
+        go : Tried p (choice_of (set old (order i) k)) s t r → new ≡ cond r (set old (order i) k) old → Walked (known_program p.known) k (i + 1) order from (choice_of new)
+        go (adopted y safe z) q = rw (q, y) (walked_raised (known_program p.known) k order from i (choice_of old) here w next (choice_of (set old (order i) k)) (get_or-set_same old (order i) k 0 fits) up safe)
+        go (rejected y none z) q = rw (q, y) (walked_kept (known_program p.known) k order from i (choice_of old) here w next (choice_of (set old (order i) k)) (get_or-set_same old (order i) k 0 fits) up none)
 
-  -- the same for all at once: `all` has the verdicts raised, and `new` gets them if that is safe
-  module _ (k nodes : ℕ) (old all : List ℕ) (e : nodes ≡ (program_of t).nodes) (h : 1 ≤ k) {first : List ℕ} (a : Written nodes (λ n. raised_to k (choice_of old n)) first all) where
-    pub starts_all : {s : List ℕ} → Holds t p (choice_of old) s → StartsFor t p (choice_of all) s
-    starts_all z = holds_start (λ n b. go n b (ℕ_discrete (choice_of old n) (k - 1))) z
-      where
-        go : (n : ℕ) → n < (program_of t).nodes → Dec (choice_of old n ≡ k - 1) → choice_of old n ≤ choice_of all n
-        go n b (yes q) =
-            let r : raised_to k (choice_of old n) ≡ k = rw (eq-eqb (choice_of old n) (k - 1) q) refl in
-            omega (arith, a.written n (omega arith), r)
-        go n b (no q) =
-            let r : raised_to k (choice_of old n) ≡ choice_of old n = rw (ne_eqb (choice_of old n) (k - 1) q) refl in
-            omega (arith, a.written n (omega arith), r)
+        lengths : (b : Bool) → length (cond b (set old n x) old) ≡ 512
+        lengths true = length-set old n x ∙ long
+        lengths false = long
 
-    module _ {s f : List ℕ} {safe : Bool} where
-      pub tried_all : Tried t p (choice_of all) s f safe → safe ≡ true → {new : List ℕ} → Written nodes (choice_of all) old new → TriedAll g k old new true × Holds t p (choice_of new) f
-      tried_all (rejected y x q) r b = not_both safe r y
-      tried_all (adopted y x z) r {new} b = (
-        all_raised refl (safe_alike g (choice_of all) (choice_of new) same x) (record {
-          long = b.long;
-          written = λ n l. b.written n (omega arith) ∙ a.written n (omega arith);
-          tail = λ n l. b.tail n (omega arith);
-        }),
-        holds_alike same z,
-      )
-        where
-          same : (n : ℕ) → n < (program_of t).nodes → choice_of all n ≡ choice_of new n
-          same n l = sym (b.written n (omega arith))
+-- or to one that does not, and stays
+pub next_past : (g : Program) {count : ℕ} {order : ℕ → ℕ} → InOrder g count order → {from : ℕ → ℕ} (old : List ℕ) (k i : ℕ) {n : ℕ} → n ≡ order i → i < count → 1 ≤ k → (choice_of old n ≡ k - 1 → ⊥) → Walked g k i order from (choice_of old) → Walked g k (i + 1) order from (choice_of old)
+next_past g {count} {order} o {from} old k i e l h d w = walked_past g k order from i (choice_of old) (o.spawns i l).exists w (λ q. d (omega (arith, ap (choice_of old) e)))
 
-      pub tried_nothing : Tried t p (choice_of all) s f safe → safe ≡ false → Holds t p (choice_of old) s → TriedAll g k old old false × Holds t p (choice_of old) f
-      tried_nothing (adopted y x w) r z = not_both safe y r
-      tried_nothing (rejected y x q) r z = (all_kept refl refl, subst (Holds t p (choice_of old)) (sym q) z)
+-- a place of the order, as the code takes it from the spawns alone
+pub placed : (spawns : List ℕ) {count i : ℕ} {items : List ℕ} → items ≡ take count spawns → i < count → at items i ≡ at spawns i
+placed spawns {count} {i} e h = ap (λ (l : List ℕ). at l i) e ∙ get_or-take count spawns i 0 h
+
+-- one byte more is raised
+pub raised_more : (k : ℕ) (old new : List ℕ) (i x : ℕ) → i < length old → i < length new → new ≡ map (raised_to k) (take i old) ++ drop i old → x ≡ raised_to k (choice_of new i) → set new i x ≡ map (raised_to k) (take (i + 1) old) ++ drop (i + 1) old
+raised_more k old new i x h l e r = rw r (map_over_more (raised_to k) old new i (choice_of new i) h e (sym (get_or_default_zero new i _ l)))
+
+-- ---- whole walks
+
+module _ (g : Program) (count : ℕ) (order : ℕ → ℕ) (o : InOrder g count order) where
+  -- all that wait at once
+  pub walked_at_once : (old : List ℕ) {k : ℕ} {new : List ℕ} → 2 ≤ k → OthersZero g (choice_of old) → g.nodes ≤ length old → new ≡ map (raised_to k) old → Safe g (choice_of new) → Walked g k count order (choice_of old) (choice_of new)
+  walked_at_once old {k} {new} h zero fits e s = walked_all g k count order (choice_of old) (choice_of new) o h zero (λ n l. ap (λ (m : List ℕ). choice_of m n) e ∙ raised_at k old n (omega arith)) s
+
+  pub merged_from : (start : List ℕ) {to : ℕ → ℕ} → Unmerged g (choice_of start) → Walked g guarded count order (choice_of start) to → Merged g count order to
+  merged_from start u w = record { start = choice_of start; unmerged_is = u; walked = w }
+
+-- unmerged everywhere is safe, since it has sizes
+pub unmerged_start : {p : Prepared} {c : ℕ → ℕ} {s : List ℕ} → PreparedFor p → Unmerged (known_program p.known) c → Holds p c s → Safe (known_program p.known) c
+unmerged_start {p} {c} q u h = unmerged_safe (known_program p.known) c (nothing_merged (known_program p.known) c u) (well_formed p.known.program.table.now p.known.program.ready.accepted_is) _ (holds_least q h)

@@ -1,2 +1,3 @@
 -- The promise of the search, and what only helps proofs.
 pub mod Walk
+pub mod Verdict

@@ -1,8 +1,9 @@
-use Rattle.std.proofs.Common.{◌-◌, refl, eq-eqb, ne_eqb}
+use Rattle.std.proofs.Common.{arith}
+use Rattle.search.specs.Verdict.{level}
+use Rattle.search.proofs.Walking.{raised_more}
 use Rattle.search.proofs.trials.raised.Goals as goal
 
-pub returns-then-verdict-k : goal.returns-then-verdict-k
-returns-then-verdict-k c = let a = c.args in rw (eq-eqb a.verdict (a.k - 1) c.if-verdict-k.true) refl
-
-pub returns-else-verdict-k : goal.returns-else-verdict-k
-returns-else-verdict-k c = let a = c.args in rw (ne_eqb a.verdict (a.k - 1) c.if-verdict-k.false) refl
+pub loop-byte-preserved : goal.loop-byte-preserved
+loop-byte-preserved c =
+    let L = c.loop-byte in
+    raised_more (level c.args.verdict) c.args.verdicts.now L.byte-items L.byte-index c.raise.result (omega (arith, c.told-verdicts)) (omega (arith, c.told-verdicts)) L.invariant c.raise.ensures

@@ -1,0 +1,15 @@
+-- The invariant: the walk has gone over the spawns so far, and the numbers are the sizes of the choice.
+use Rattle.std.proofs.Common.{◌≡◌, length}
+use Rattle.size.specs.Numbers.{at}
+use Rattle.sizes.specs.Call.{choice_of}
+use Rattle.sizes.specs.Trials.{known_program, Holds}
+use Rattle.search.specs.Verdict.{level}
+use Rattle.search.specs.Walk.{Walked}
+use Rattle.search.proofs.found.Found.one_by_one.Given as goal
+
+abbrev pub invariant-loop-n : goal.invariant-loop-n
+invariant-loop-n l = record {
+  walked : Walked (known_program l.prepared.known) (level l.verdict) l.n-index (at l.order.spawns) (choice_of l.initial.self.verdicts) (choice_of l.self.verdicts);
+  holds : Holds l.prepared (choice_of l.self.verdicts) l.self.sizes;
+  long : length l.self.verdicts ≡ 512;
+}

@@ -1,0 +1,38 @@
+// A choice with its sizes, as far as a search has come.
+ghost use Rattle.std.specs.Prelude.{◌≡◌, replicate};
+ghost use Rattle.table.specs.Program.{program_of};
+ghost use Rattle.sizes.specs.Call.{choice_of};
+ghost use Rattle.search.specs.Walk.{Unmerged};
+
+use crate::Work;
+use crate::verdict::Verdict;
+use program::Program;
+
+// The verdicts of nodes and the sizes of the choice that they are, each with room for the largest table, and the work that it took to find
+// them. It is handed out by value, and there is no heap.
+#[derive(Clone, Copy)]
+pub struct Found {
+    pub verdicts: [u8; 512],
+    pub sizes: [u32; 2304],
+    pub work: Work,
+}
+
+impl Found {
+    // Unmerged everywhere, with zeros for its sizes.
+    pub(crate) fn unmerged(program: &Program<'_>) -> Found
+        ensures unmerged { Unmerged (program_of program.now.table.now) (choice_of result.verdicts) }
+        ensures zeros { result.sizes ≡ replicate 2304 0 }
+    {
+        let mut verdicts = [0; 512];
+        for n in 0..program.of.nodes {
+            if program.is_spawn(n) {
+                verdicts[n] = u8::from(Verdict::Unmerged);
+            }
+        }
+        Found {
+            verdicts,
+            sizes: [0; 2304],
+            work: Work::default(),
+        }
+    }
+}
