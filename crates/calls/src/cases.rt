@@ -1,10 +1,9 @@
 // The calls of document 01, with their answers as text.
-use crate::answers::{done, is_safe};
 use report::{OLD_SIZE, OLD_VERDICT, kept};
 use std::io;
 use std::io::Write;
 use sync::words::has;
-use table::Checked;
+use table::check;
 
 fn print_nodes<W: Write>(out: &mut W, set: [u64; 8]) -> io::Result<()> {
     for n in 0..512 {
@@ -17,12 +16,16 @@ fn print_nodes<W: Write>(out: &mut W, set: [u64; 8]) -> io::Result<()> {
 
 // The two sets that `sync` finds: the synchronising nodes, and those that are reached.
 pub fn show_sync<W: Write>(out: &mut W, t: &[u8]) -> io::Result<()> {
-    let answer = sync::synchronising(t);
-    report::checked(out, answer.checked)?;
+    let known = sync::synchronising(t);
+    report::checked(out, known.map(|k| k.program.of))?;
+    let (synchronising, reached) = match known {
+        Ok(k) => (k.synchronising, k.reached),
+        Err(_) => ([0; 8], [0; 8]),
+    };
     write!(out, "  synchronising:")?;
-    print_nodes(out, answer.synchronising)?;
+    print_nodes(out, synchronising)?;
     write!(out, "\n  reached:")?;
-    print_nodes(out, answer.reached)?;
+    print_nodes(out, reached)?;
     writeln!(out)
 }
 
@@ -33,13 +36,13 @@ pub fn show_sizes<W: Write>(
     choice: &[u8],
     sizes: &mut [u32],
 ) -> io::Result<()> {
-    match done(sizes::sizes(t, choice, sizes)) {
+    match sizes::sizes(t, choice, sizes) {
         Ok(()) => {
             writeln!(out, "done")?;
             report::functions(out, t, sizes)?;
             report::nodes(out, t, sizes)?;
         }
-        Err(refusal) => writeln!(out, "{refusal}")?,
+        Err(refused) => writeln!(out, "{refused}")?,
     }
     writeln!(out, "  kept {}", kept(sizes, &OLD_SIZE))
 }
@@ -51,24 +54,23 @@ pub fn show_safety<W: Write>(
     choice: &[u8],
     sizes: &mut [u32],
 ) -> io::Result<()> {
-    match is_safe(safety::safety(t, choice, sizes)) {
+    match safety::safety(t, choice, sizes) {
         Ok(safe) => {
             writeln!(out, "{}", if safe { "safe" } else { "unsafe" })?;
             report::functions(out, t, sizes)?;
         }
-        Err(refusal) => writeln!(out, "{refusal}")?,
+        Err(refused) => writeln!(out, "{refused}")?,
     }
     writeln!(out, "  kept {}", kept(sizes, &OLD_SIZE))
 }
 
 // The spawns of the table in the preference order, where it is accepted.
 fn print_order<W: Write>(out: &mut W, t: &[u8]) -> io::Result<()> {
-    let arranged = preference::preference(t);
-    let Checked::Accepted(_) = arranged.checked else {
+    let Ok(order) = preference::preference(t) else {
         return Ok(());
     };
     write!(out, "  order")?;
-    for spawn in arranged.spawns.iter().take(arranged.count) {
+    for spawn in order.as_slice() {
         write!(out, " {spawn}")?;
     }
     writeln!(out)
@@ -76,7 +78,7 @@ fn print_order<W: Write>(out: &mut W, t: &[u8]) -> io::Result<()> {
 
 // The verdict of each node of the table, as far as the buffer goes.
 fn print_verdicts<W: Write>(out: &mut W, t: &[u8], verdicts: &[u8]) -> io::Result<()> {
-    let Checked::Accepted(of) = table::check(t) else {
+    let Ok(of) = check(t) else {
         return Ok(());
     };
     write!(out, "  verdicts")?;
@@ -93,15 +95,15 @@ pub fn show_best<W: Write>(
     verdicts: &mut [u8],
     sizes: &mut [u32],
 ) -> io::Result<()> {
-    match done(choice::best(t, verdicts, sizes)) {
+    match choice::best(t, verdicts, sizes) {
         Ok(()) => {
             writeln!(out, "done")?;
             print_order(out, t)?;
             print_verdicts(out, t, verdicts)?;
             report::functions(out, t, sizes)?;
         }
-        Err(refusal) => {
-            writeln!(out, "{refusal}")?;
+        Err(refused) => {
+            writeln!(out, "{refused}")?;
             print_order(out, t)?;
         }
     }

@@ -1,5 +1,4 @@
 // The work that calls take. The counts are held by stored output, and not promised.
-use crate::answers::done;
 use std::io;
 use std::io::Write;
 
@@ -9,10 +8,9 @@ use std::io::Write;
 pub fn show_passes<W: Write>(out: &mut W, t: &[u8], choice: &[u8]) -> io::Result<()> {
     // Room for the sizes of the largest table, so that none is refused for it.
     let mut numbers = [0u32; 2304];
-    let mut passes: u32 = 0;
-    match done(sizes::counted(t, choice, &mut numbers, &mut passes)) {
-        Ok(()) => writeln!(out, "{passes} passes"),
-        Err(refusal) => writeln!(out, "{refusal}"),
+    match sizes::counted(t, choice, &mut numbers) {
+        Ok(turns) => writeln!(out, "{turns} passes"),
+        Err(refused) => writeln!(out, "{refused}"),
     }
 }
 
@@ -22,10 +20,8 @@ pub fn show_trials<W: Write>(out: &mut W, t: &[u8]) -> io::Result<()> {
     // Room for the largest table, so that none is refused for it.
     let mut verdicts = [0u8; 512];
     let mut sizes = [0u32; 2304];
-    let mut trials: u32 = 0;
-    let mut passes: u32 = 0;
-    match done(choice::counted(t, &mut verdicts, &mut sizes, &mut trials, &mut passes)) {
-        Ok(()) => writeln!(out, "{trials} trials, {passes} passes"),
-        Err(refusal) => writeln!(out, "{refusal}"),
+    match choice::counted(t, &mut verdicts, &mut sizes) {
+        Ok(work) => writeln!(out, "{} trials, {} passes", work.trials, work.turns),
+        Err(refused) => writeln!(out, "{refused}"),
     }
 }

@@ -2,7 +2,6 @@
 // programs, `worked_cases` and `counts`: they differ in their scripts.
 #![tactic(auto)]
 
-mod answers;
 mod cases;
 mod counts;
 mod names;

@@ -4,8 +4,6 @@ use Rattle.table.specs.Answer.{Outcome}
 use Rattle.table.specs.Answer.Outcome.{accepted}
 use Rattle.table.specs.Answer.Outcome.{refused as table_refused}
 use Rattle.sizes.specs.Call.{Result, done, refused}
-use Rattle.sizes.specs.declared.Answer.{Answer}
-use Rattle.sizes.specs.declared.Answer.TheVariants.{Done, Refused}
 
 -- what a call comes to that is handed a table and nothing else that can be refused
 abbrev pub table_result : Outcome → Result
@@ -25,8 +23,3 @@ place_of (refused number place) old = place
 -- what a caller is told: the number returned, and the place
 abbrev pub Told : Result → (returned old_place new_place : ℕ) → Type 0
 Told x returned old_place new_place = (returned ≡ code_of x) × (new_place ≡ place_of x old_place)
-
--- the same result as the crates below answer it, for their promises on what is left in buffers
-abbrev pub answer_of : Result → Answer
-answer_of done = Done
-answer_of (refused number place) = Refused number place

@@ -2,16 +2,26 @@
 #![tactic(auto)]
 
 ghost use Rattle.std.specs.Prelude.{◌≡◌, ◌++◌, length, take, drop};
-ghost use Rattle.table.specs.Answer.{outcome};
+ghost use Rattle.table.specs.Answer.{outcome, number_of};
 ghost use Rattle.sync.specs.Words.{Eight};
-ghost use Rattle.sizes.specs.Call.{call_result, Leaves};
+ghost use Rattle.sizes.specs.Call.{call_result, LeavesFor};
 ghost use Rattle.sizes.specs.Known.{call};
-ghost use Rattle.choice.specs.Call.{best_call, best_result, LeavesBoth};
-ghost use Rattle.nagbiro.specs.Codes.{table_result, code_of, Told, answer_of};
+ghost use Rattle.choice.specs.Call.{best_call, best_result, LeavesBothFor};
+ghost use Rattle.nagbiro.specs.Codes.{table_result, code_of, Told};
 ghost use Rattle.nagbiro.specs.Left.{Counted, LeavesWords, Judges};
 
 use sync::synchronising;
-use table::{Checked, check};
+use table::check;
+use table::refusal::Refused;
+
+// What a caller is told of a refusal: its number, and its place.
+fn tell(refused: Refused, place: &mut usize) -> u32
+    ensures number { result ≡ number_of refused.cause }
+    ensures place { place.new ≡ refused.place }
+{
+    *place = refused.place;
+    u32::from(refused.cause)
+}
 
 // Checks a table: 0 and its numbers of functions, nodes and edges in a, b and c; or the refusal's number, and its place in a.
 #[unsafe(no_mangle)]
@@ -20,16 +30,13 @@ pub extern "C" fn nagbiro_check(t: &[u8], a: &mut usize, b: &mut usize, c: &mut 
     ensures counts { Counted (outcome t.now) b.old c.old a.new b.new c.new }
 {
     match check(t) {
-        Checked::Accepted(of) => {
+        Ok(of) => {
             *a = of.functions;
             *b = of.nodes;
             *c = of.edges;
             0
         }
-        Checked::Refused(number, place) => {
-            *a = place;
-            number
-        }
+        Err(refused) => tell(refused, a),
     }
 }
 
@@ -38,14 +45,8 @@ fn write_words(set: [u64; 8], words: &mut [u64])
     ensures eight { Eight set }
     ensures written { words.new ≡ take (length words.old) set ++ drop 8 words.old }
 {
-    let mut i: usize = 0;
-    while i < 8 {
-        if words.len() <= i {
-            return;
-        }
-        words[i] = set[i];
-        i += 1;
-    }
+    let count = words.len().min(8);
+    words[..count].copy_from_slice(&set[..count]);
 }
 
 // Finds the synchronising nodes, one bit for each.
@@ -54,18 +55,13 @@ pub extern "C" fn nagbiro_synchronising(t: &[u8], words: &mut [u64], place: &mut
     ensures told { Told (table_result (outcome t.now)) result place.old place.new }
     ensures leaves { LeavesWords t.now (table_result (outcome t.now)) words.old words.new }
 {
-    let answer = synchronising(t);
-    let checked = answer.checked;
-    match checked {
-        Checked::Accepted(_) => {
-            let set = answer.synchronising;
+    match synchronising(t) {
+        Ok(known) => {
+            let set = known.synchronising;
             write_words(set, words);
             0
         }
-        Checked::Refused(number, at) => {
-            *place = at;
-            number
-        }
+        Err(refused) => tell(refused, place),
     }
 }
 
@@ -80,21 +76,14 @@ pub extern "C" fn nagbiro_one_choice(
 ) -> u32
     ensures told { Told (call_result (call t.now choice.now (length sizes.old))) result place.old place.new }
     ensures judges { Judges (call t.now choice.now (length sizes.old)) safe.old safe.new }
-    ensures leaves { Leaves t.now choice.now sizes.old (answer_of (call_result (call t.now choice.now (length sizes.old)))) sizes.new }
+    ensures leaves { LeavesFor t.now choice.now sizes.old (call_result (call t.now choice.now (length sizes.old))) sizes.new }
 {
     match safety::safety(t, choice, sizes) {
-        safety::Answer::IsSafe => {
-            *safe = 1;
+        Ok(is_safe) => {
+            *safe = u32::from(is_safe);
             0
         }
-        safety::Answer::IsUnsafe => {
-            *safe = 0;
-            0
-        }
-        safety::Answer::Refused(number, at) => {
-            *place = at;
-            number
-        }
+        Err(refused) => tell(refused, place),
     }
 }
 
@@ -107,13 +96,10 @@ pub extern "C" fn nagbiro_best_choice(
     place: &mut usize,
 ) -> u32
     ensures told { Told (best_result (best_call t.now (length verdicts.old) (length sizes.old))) result place.old place.new }
-    ensures leaves { LeavesBoth t.now verdicts.old verdicts.new sizes.old sizes.new (answer_of (best_result (best_call t.now (length verdicts.old) (length sizes.old)))) }
+    ensures leaves { LeavesBothFor t.now verdicts.old verdicts.new sizes.old sizes.new (best_result (best_call t.now (length verdicts.old) (length sizes.old))) }
 {
     match choice::best(t, verdicts, sizes) {
-        sizes::Answer::Done => 0,
-        sizes::Answer::Refused(number, refused_at) => {
-            *place = refused_at;
-            number
-        }
+        Ok(()) => 0,
+        Err(why) => tell(why, place),
     }
 }

@@ -5,7 +5,8 @@ ghost use Rattle.std.specs.Prelude.{◌≡◌, ◌==◌, ◌++◌, if◌then◌e
 
 use std::io::Write;
 use std::{fmt, io};
-use table::Checked;
+use table::refusal::Refused;
+use table::{Counts, check};
 
 // What a sizes buffer holds before each run. It is no size, so what is left of it can be counted.
 pub const OLD_SIZE: u32 = 77777;
@@ -20,28 +21,11 @@ pub fn kept<T: PartialEq>(buffer: &[T], old: &T) -> usize
     buffer.iter().filter(|x| *x == old).count()
 }
 
-// Which check refuses, and at which place.
-#[derive(Clone, Copy, Debug)]
-pub struct Refusal {
-    pub number: u32,
-    pub place: usize,
-}
-
-impl fmt::Display for Refusal {
-    ghost output = { λ x. Some (codes "refused " ++ (decimal x.number ++ (codes " at " ++ decimal x.place))) };
-
-    fn fmt<W: fmt::Write>(&self, f: &mut fmt::Formatter<W>) -> fmt::Result {
-        write!(f, "refused {} at {}", self.number, self.place)
-    }
-}
-
 // `accepted`, then the number of functions, nodes and edges; or the refusal.
-pub fn checked<W: Write>(out: &mut W, answer: Checked) -> io::Result<()> {
+pub fn checked<W: Write>(out: &mut W, answer: Result<Counts, Refused>) -> io::Result<()> {
     match answer {
-        Checked::Accepted(of) => {
-            writeln!(out, "accepted {} {} {}", of.functions, of.nodes, of.edges)
-        }
-        Checked::Refused(number, place) => writeln!(out, "{}", Refusal { number, place }),
+        Ok(of) => writeln!(out, "accepted {} {} {}", of.functions, of.nodes, of.edges),
+        Err(refused) => writeln!(out, "{refused}"),
     }
 }
 
@@ -86,16 +70,16 @@ fn rows<W: Write>(
 
 // A row `  F n Total Post Pre Through` for each function of the table, as far as the sizes buffer goes.
 pub fn functions<W: Write>(out: &mut W, t: &[u8], sizes: &[u32]) -> io::Result<()> {
-    match table::check(t) {
-        Checked::Accepted(of) => rows(out, 'F', sizes, 0, of.functions),
-        Checked::Refused(..) => Ok(()),
+    match check(t) {
+        Ok(of) => rows(out, 'F', sizes, 0, of.functions),
+        Err(_) => Ok(()),
     }
 }
 
 // A row `  N n Total Post Pre Through` for each node of the table, as far as the sizes buffer goes behind the functions.
 pub fn nodes<W: Write>(out: &mut W, t: &[u8], sizes: &[u32]) -> io::Result<()> {
-    match table::check(t) {
-        Checked::Accepted(of) => rows(out, 'N', sizes, of.functions, of.nodes),
-        Checked::Refused(..) => Ok(()),
+    match check(t) {
+        Ok(of) => rows(out, 'N', sizes, of.functions, of.nodes),
+        Err(_) => Ok(()),
     }
 }

@@ -1,17 +1,12 @@
 -- An array of sizes, as the list of their values.
 use Prim.Native.Nat.{ℕ, zero, suc}
-use mathlib.Core.Path.{◌≡◌, refl, sym, ap, ap₂}
-use mathlib.Core.List.{List, [], ◌∷◌, map}
-use lib.ListN.{get_or, set, replicate, get_or-map}
+use mathlib.Core.Path.{◌≡◌, refl, sym, ap₂}
+use mathlib.Core.List.{List, ◌∷◌, map}
+use lib.ListN.{get_or, replicate, get_or-map}
 use Rattle.size.specs.Numbers.{at}
 use Rattle.size.specs.Size.{value_of}
 use Rattle.size.specs.declared.Size.{Size}
 use Rattle.size.specs.declared.Size.TheVariants.{Bytes}
-
-pub map_set : (l : List Size) (i : ℕ) (y : Size) → map value_of (set l i y) ≡ set (map value_of l) i (value_of y)
-map_set [] i y = refl
-map_set (x ∷ xs) zero y = refl
-map_set (x ∷ xs) (suc i) y = ap (λ (r : List ℕ). value_of x ∷ r) (map_set xs i y)
 
 -- an element of the values is the value of the element; past the end both are 0
 pub map_at : (l : List Size) (i : ℕ) → value_of (get_or l i (Bytes 0)) ≡ at (map value_of l) i

@@ -13,9 +13,6 @@ pub value_le : (s : Size) → value_of s ≤ unbounded
 value_le (Bytes n) = omega arith
 value_le Unbounded = omega arith
 
-pub cap_is : {x : ℕ} → x ≤ unbounded → cap x ≡ x
-cap_is h = omega arith
-
 -- the two cases of a number
 pub size_bytes : (n k : ℕ) → n ≡ k → k < unbounded → Bytes n ≡ size_of k
 unfolding size_of
@@ -35,11 +32,3 @@ value_size k = go (dec_lt k unbounded)
 
 pub value_is : (s : Size) (k : ℕ) → s ≡ size_of k → value_of s ≡ cap k
 value_is s k e = ap value_of e ∙ value_size k
-
--- so two numbers with one capped value are written alike
-pub size_same : (j k : ℕ) → cap j ≡ cap k → size_of j ≡ size_of k
-size_same j k e = go (dec_lt k unbounded)
-  where
-    go : Dec (k < unbounded) → size_of j ≡ size_of k
-    go (yes h) = sym (size_bytes k j (omega arith) (omega arith)) ∙ size_bytes k k refl h
-    go (no h) = sym (size_unbounded j (omega arith)) ∙ size_unbounded k (omega arith)

@@ -6,12 +6,12 @@ use native.Mathlib.Omega.{arith}
 use native.Mathlib.Decide.{ℕ_discrete}
 use lib.ListN.{length, set, take, length-set}
 use lib.Seq.{get_or-set_same, get_or-set_other}
-use Rattle.std.proofs.lemmas.List.{get_or-take, length-take-le}
+use Rattle.std.proofs.lemmas.List.{get_or-take, length-take-le, map-set}
 use Rattle.size.specs.Numbers.{at, Written}
 use Rattle.size.specs.Size.{value_of}
 use Rattle.size.specs.declared.Size.{Size}
 use Rattle.size.specs.declared.Size.TheVariants.{Bytes}
-use Rattle.size.proofs.Maps.{map_set, map_at}
+use Rattle.size.proofs.Maps.{map_at}
 
 pub written_none : (numbers : ℕ → ℕ) (old : List ℕ) → Written 0 numbers old old
 written_none numbers old = record { long = refl; written = λ i h. absurd (omega arith); tail = λ i h. refl }
@@ -32,7 +32,7 @@ written_last numbers w e = rw e at w
 
 -- in an array of sizes, by their values
 pub written_size : (numbers : ℕ → ℕ) (i : ℕ) (s : Size) {old : List ℕ} (new : List Size) → Written i numbers old (map value_of new) → i < length old → value_of s ≡ numbers i → Written (i + 1) numbers old (map value_of (set new i s))
-written_size numbers i s new w h e = rw map_set (written_next numbers i (value_of s) w h e)
+written_size numbers i s new w h e = rw map-set (written_next numbers i (value_of s) w h e)
 
 -- the first sizes of an array, as the code cuts them off
 pub written_first : (sizes : List Size) {n : ℕ} {old new : List ℕ} → n ≤ length sizes → Written (length (take n sizes)) (at (map value_of (take n sizes))) old new → Written n (at (map value_of sizes)) old new

@@ -76,6 +76,9 @@ result_of (Ok x) = done
 result_of (Err r) = refused (number_of r.cause) r.place
 
 -- What the call leaves in the sizes buffer: the least sizes, and the old numbers past them; and "A refusal writes nothing."
+abbrev pub LeavesFor : List ℕ → List ℕ → List ℕ → Result → List ℕ → Type 0
+LeavesFor t choice old done new = (sizes : ℕ → ℕ) × LeastSizes (program_of t) (choice_of choice) sizes × Written (entries (program_of t)) sizes old new
+LeavesFor t choice old (refused number place) new = new ≡ old
+
 abbrev pub Leaves : {X : Type 0} → List ℕ → List ℕ → List ℕ → CodeResult X Refused → List ℕ → Type 0
-Leaves t choice old (Ok x) new = (sizes : ℕ → ℕ) × LeastSizes (program_of t) (choice_of choice) sizes × Written (entries (program_of t)) sizes old new
-Leaves t choice old (Err r) new = new ≡ old
+Leaves t choice old answer new = LeavesFor t choice old (result_of answer) new

@@ -144,12 +144,12 @@ settling_start {rules} {v} {k} sized none_is = record {
 module _ {rules : List ℕ} {from : ℕ → ℕ} {v : ℕ → ℕ} {k : ℕ → ℕ} where
   module _ {w : ℕ → ℕ} {l : ℕ → ℕ} {stop turns last : ℕ} (s : Settling rules from v k stop turns) (turn : Turned rules v k w l last) where
     -- something has risen: once more
-    pub settling_on : 0 < last → Settling rules from w l last (turns + 1)
-    settling_on n = record {
+    pub settling_on : {next : ℕ} → 0 < last → next ≡ last → Settling rules from w l next (turns + 1)
+    settling_on {next} n e = record {
       ok = turn.ok from s.ok;
       above = λ x. omega (arith, s.above x, turn.up x);
-      stops = turn.lasts;
-      held = λ j a b. turn.held j a b (inl b);
+      stops = omega (arith, turn.lasts);
+      held = λ j a b. turn.held j (omega arith) b (inl b);
       few = omega (arith, s.few, turn.falls);
     }
 

@@ -44,7 +44,9 @@ impl Solution {
         &self.before
     }
 
-    pub fn turns(&self) -> u32 {
+    pub fn turns(&self) -> u32
+        ensures { result ≡ self.now.turns }
+    {
         self.turns
     }
 

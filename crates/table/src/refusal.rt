@@ -1,6 +1,8 @@
 // What a call is refused for.
-ghost use Rattle.std.specs.Prelude.{◌≡◌};
+ghost use Rattle.std.specs.Prelude.{◌≡◌, ◌++◌, Some, codes, decimal};
 ghost use Rattle.table.specs.Answer.{number_of};
+
+use std::fmt;
 
 // The rows of "Refused tables" in their order: of the table itself down to `NotPlain`, and then of what is handed in beside it.
 #[derive(Clone, Copy, Debug, PartialEq, Eq)]
@@ -44,4 +46,13 @@ impl From<Cause> for u32 {
 pub struct Refused {
     pub cause: Cause,
     pub place: usize,
+}
+
+// As the programs print it.
+impl fmt::Display for Refused {
+    ghost output = { λ r. Some (codes "refused " ++ (decimal (number_of r.cause) ++ (codes " at " ++ decimal r.place))) };
+
+    fn fmt<W: fmt::Write>(&self, f: &mut fmt::Formatter<W>) -> fmt::Result {
+        write!(f, "refused {} at {}", u32::from(self.cause), self.place)
+    }
 }

@@ -1,18 +1,12 @@
 use Prim.Native.Nat.{ℕ}
-use mathlib.Core.Path.{refl}
 use native.Mathlib.Omega.{arith}
 use lib.ListN.{length-replicate}
 use Rattle.size.specs.Size.{cap}
 use Rattle.size.specs.Numbers.{at}
-use Rattle.size.specs.declared.Size.TheVariants.{Bytes}
 use Rattle.size.proofs.Values.{value_is}
-use Rattle.size.proofs.Maps.{map_zeros}
-use Rattle.size.proofs.Writing.{written_none, written_size, written_last}
+use Rattle.size.proofs.Writing.{written_size, written_last}
 use Rattle.solver.proofs.Values.{starts}
 use Rattle.solver.proofs.solution.Solution.starting.Goals as goal
-
-pub loop-x-init : goal.loop-x-init
-loop-x-init c = (rw (map_zeros 2304 (Bytes 0) refl) (written_none _ _), refl, refl, refl)
 
 pub loop-x-preserved : goal.loop-x-preserved
 loop-x-preserved c =

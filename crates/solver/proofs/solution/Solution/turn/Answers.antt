@@ -1,11 +1,8 @@
 use native.Mathlib.Omega.{arith}
 use mathlib.Core.Logic.{inl, inr}
-use Rattle.solver.proofs.Rounds.{head_low, turn_start, turn_held, turn_rose, turn_over}
+use Rattle.solver.proofs.Rounds.{head_low, turn_held, turn_rose, turn_over}
 use Rattle.solver.proofs.solution.Solution.turn.Goals as goal
 use Rattle.solver.proofs.solution.Solution.turn.Goals.{then-apply, else-apply, else-loop-i-test, then-loop-i-test+then-i-end}
-
-pub loop-i-init : goal.loop-i-init
-loop-i-init c = turn_start c.requires.stop_held.0 c.requires.stop_held.1
 
 pub loop-i-preserved : goal.loop-i-preserved
 loop-i-preserved c =
