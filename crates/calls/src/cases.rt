@@ -66,11 +66,11 @@ pub fn show_safety<W: Write>(
 
 // The spawns of the table in the preference order, where it is accepted.
 fn print_order<W: Write>(out: &mut W, t: &[u8]) -> io::Result<()> {
-    let Ok(order) = preference::preference(t) else {
+    let Ok(arranged) = preference::preference(t) else {
         return Ok(());
     };
     write!(out, "  order")?;
-    for spawn in order.as_slice() {
+    for spawn in arranged.order.as_slice() {
         write!(out, " {spawn}")?;
     }
     writeln!(out)

@@ -212,7 +212,7 @@ searched_best {p} {found} q x =
     let w = well_formed p.known.program.table.now p.known.program.ready.accepted_is in
     record {
       returned = walks_return (known_program p.known) w x.count x.order x.in_order m.start x.middle (choice_of found.verdicts) m.unmerged_is m.walked x.walked;
-      sizes = x.holds.sizes;
+      sizes = x.holds.found.sizes;
       least = holds_least q x.holds;
       sizes_are = x.holds.written;
     }

@@ -1,6 +1,8 @@
 // The preference order by value.
 ghost use Rattle.std.specs.Prelude.{◌≡◌, ◌≤◌, length, take};
 
+use table::Counts;
+
 // The spawns of a program in the preference order: the first `count` numbers, with zeros behind them. It is handed out by value, and there is no heap.
 #[derive(Clone, Copy)]
 pub struct Order {
@@ -17,4 +19,11 @@ impl Order {
     {
         &self.spawns[..self.count]
     }
+}
+
+// What the table's check found, and the order.
+#[derive(Clone, Copy)]
+pub struct Arranged {
+    pub of: Counts,
+    pub order: Order,
 }

@@ -1,4 +1,4 @@
--- What the crates above may use of trials: a prepared table is an accepted one, numbers that hold the sizes of a choice hold the least ones,
+-- What the crates above may use of trials: numbers that hold the sizes of a choice hold the least ones,
 -- zeros will do for every choice, and what was found for a smaller choice will do for a larger one.
 use Prim.Native.Nat.{ℕ, ◌<◌, ◌≤◌}
 use mathlib.Core.Path.{◌≡◌, ap, ◌∙◌}
@@ -29,27 +29,30 @@ module _ {p : Prepared} where
   words_few q = q.words_for.widest.few
 
   -- numbers that hold the sizes of a choice hold the least ones
-  pub holds_least : {c : ℕ → ℕ} {numbers : List ℕ} → PreparedFor p → (h : Holds p c numbers) → LeastSizes (known_program p.known) c h.sizes
-  holds_least q h = (member p.known.synchronising, q.looked.set, h.least)
+  pub holds_least : {c : ℕ → ℕ} {numbers : List ℕ} → PreparedFor p → (h : Holds p c numbers) → LeastSizes (known_program p.known) c h.found.sizes
+  holds_least q h = (member p.known.synchronising, q.looked.set, h.found.sizes_of.least)
 
   -- whatever it says of nodes that do not exist
   pub holds_alike : {c d : ℕ → ℕ} {numbers : List ℕ} → ((n : ℕ) → n < (known_program p.known).nodes → c n ≡ d n) → Holds p c numbers → Holds p d numbers
   holds_alike {c} {d} e h = record {
     long = h.long;
-    sizes = h.sizes;
-    least = least_alike (known_program p.known) (member p.known.synchronising) c d h.sizes e h.least;
-    derived = derived_larger (known_program p.known) (member p.known.synchronising) (member p.known.reached) c d h.sizes (λ n l. omega (arith, e n l)) h.derived;
+    solution = h.solution;
+    found = record {
+      sizes = h.found.sizes;
+      sizes_of = record { least = least_alike (known_program p.known) (member p.known.synchronising) c d h.found.sizes e h.found.sizes_of.least; after_is = h.found.sizes_of.after_is; before_is = h.found.sizes_of.before_is };
+      derived = derived_larger (known_program p.known) (member p.known.synchronising) (member p.known.reached) c d h.found.sizes (λ n l. omega (arith, e n l)) h.found.derived;
+      sizes_are = h.found.sizes_are;
+    };
     written = h.written;
   }
 
   -- what was found is held by the numbers that it is written to
   pub found_held : {c : ℕ → ℕ} {f : Solution} {old new : List ℕ} → FoundFor p.known c f → length old ≡ 2304 → Written (entries (known_program p.known)) (at (map value_of f.sizes)) old new → Holds p c new
-  found_held f l w = record {
+  found_held {f = f} found l w = record {
     long = w.long ∙ l;
-    sizes = f.sizes;
-    least = f.sizes_of.least;
-    derived = f.derived;
-    written = λ x h. w.written x h ∙ f.sizes_are x h;
+    solution = f;
+    found = found;
+    written = λ x h. w.written x h ∙ found.sizes_are x h;
   }
 
   -- zeros will do for every choice
@@ -71,5 +74,5 @@ module _ {p : Prepared} where
       each x = go (dec_lt x (entries (known_program p.known)))
         where
           go : Dec (x < entries (known_program p.known)) → DerOf (record { program = known_program p.known; synchronising = member p.known.synchronising; reached = member p.known.reached; choice = c }) (size x) (starts_from (entries (known_program p.known)) numbers x)
-          go (yes l) = rw (starts_taken (entries (known_program p.known)) numbers x l, h.written x l) (h.derived.each x)
+          go (yes l) = rw (starts_taken (entries (known_program p.known)) numbers x l, h.written x l) (h.found.derived.each x)
           go (no l) = rw (starts_zero (entries (known_program p.known)) numbers x (omega arith)) none

@@ -10,7 +10,7 @@ use Rattle.size.specs.Size.{value_of}
 use Rattle.size.specs.Numbers.{at}
 use Rattle.solver.specs.Values.{starts_from}
 use Rattle.solver.specs.declared.solution.Solution.{Solution}
-use Rattle.rules.specs.Rules.{Least, entries}
+use Rattle.rules.specs.Rules.{entries}
 use Rattle.rules.specs.System.{Derived}
 use Rattle.listed.specs.Listed.{slots, Widest}
 use Rattle.sizes.specs.Answer.{SizesOf}
@@ -51,7 +51,6 @@ pub record StartsFor (p : Prepared) (choice : ℕ → ℕ) (numbers : List ℕ) 
 -- They were found, and stand in the first of these numbers.
 pub record Holds (p : Prepared) (choice : ℕ → ℕ) (numbers : List ℕ) : Type 0 where
   pub long : length numbers ≡ 2304
-  pub sizes : ℕ → ℕ
-  pub least : Least (known_program p.known) (member p.known.synchronising) choice sizes
-  pub derived : DerivedFor p.known choice sizes
-  pub written : (x : ℕ) → x < entries (known_program p.known) → at numbers x ≡ sizes x
+  pub solution : Solution
+  pub found : FoundFor p.known choice solution
+  pub written : (x : ℕ) → x < entries (known_program p.known) → at numbers x ≡ found.sizes x
