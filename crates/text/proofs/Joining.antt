@@ -7,6 +7,7 @@ use lib.ListN.{drop}
 use lib.Dec.{eqb}
 use native.Mathlib.Numerals.{add-one}
 use Rattle.std.proofs.lemmas.List.{get_or-drop}
+use Rattle.std.proofs.lemmas.Grind.{common_steps}
 use Rattle.size.specs.Numbers.{at}
 use Rattle.table.specs.Record.{spawn}
 use Rattle.table.specs.Program.{program_of}
@@ -34,3 +35,6 @@ node_is c n = simp get_or-drop
 pub text_is : (c : Chosen) → text_of c ≡ joined (function_text c) c.program.of.functions ++ joined (node_text c) c.program.of.nodes
 unfolding text_of listing function_text node_text
 text_is c = rw (c.program.functions_are, c.program.nodes_are) refl
+
+-- for the loops over functions and nodes
+pub ruleset rows = (common_steps, joined_none, joined_more, function_is, node_is, text_is)

@@ -6,8 +6,8 @@ ghost use Rattle.text.specs.Chosen.{function_text, node_text, text_of};
 use crate::chosen::Chosen;
 use crate::text::{ROOM, Text};
 
+#[tactic(auto, using(crate::proofs::Joining::rows))]
 impl Text {
-    #[tactic(auto, using(std::proofs::lemmas::Grind::common_steps, crate::proofs::Joining::joined_none, crate::proofs::Joining::joined_more, crate::proofs::Joining::function_is))]
     pub(crate) fn push_functions(&mut self, chosen: &Chosen<'_>)
         requires { length self.old + 107 * chosen.now.program.of.functions ≤ ROOM }
         ensures appended { self.new ≡ self.old ++ joined (function_text chosen.now) chosen.now.program.of.functions }
@@ -19,7 +19,6 @@ impl Text {
     }
 
     // The line of node n, if it is a spawn.
-    #[tactic(auto, using(std::proofs::lemmas::Grind::common_steps, crate::proofs::Joining::node_is))]
     fn push_node(&mut self, chosen: &Chosen<'_>, n: usize)
         requires room { length self.old + 117 ≤ ROOM }
         requires node { n < chosen.now.program.of.nodes }
@@ -32,7 +31,6 @@ impl Text {
         }
     }
 
-    #[tactic(auto, using(std::proofs::lemmas::Grind::common_steps, crate::proofs::Joining::joined_none, crate::proofs::Joining::joined_more))]
     pub(crate) fn push_spawns(&mut self, chosen: &Chosen<'_>)
         requires { length self.old + 117 * chosen.now.program.of.nodes ≤ ROOM }
         ensures { self.new ≡ self.old ++ joined (node_text chosen.now) chosen.now.program.of.nodes }
@@ -43,7 +41,6 @@ impl Text {
     }
 
     // The lines of the functions, and then those of the spawns.
-    #[tactic(auto, using(std::proofs::lemmas::Grind::common_steps, crate::proofs::Joining::text_is))]
     pub(crate) fn push_listing(&mut self, chosen: &Chosen<'_>)
         requires { self.old ≡ [] }
         ensures { self.new ≡ text_of chosen.now }
