@@ -9,5 +9,5 @@ fn main(rt: HostRuntime) -> io::Result<()> {
     let mut buffer = [0u8; 12801];
     let bytes = read_full(&mut rt.stdin(), &mut buffer)?;
     let made = text::listing(bytes);
-    rt.write_all(&made.bytes[..made.length])
+    rt.write_all(made.as_bytes())
 }

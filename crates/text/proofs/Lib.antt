@@ -1,7 +1,6 @@
 -- For the crates above: the law of the text.
 pub mod Laws
 -- How the promises come about.
-mod Appending
 mod Fields
-mod Texts
+mod Joining
 mod Whole

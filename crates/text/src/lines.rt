@@ -1,64 +1,94 @@
-// The lines of a listing, appended to a lent buffer as in `append`.
-ghost use Rattle.std.specs.Prelude.{◌+◌, ◌*◌, ◌≤◌, length, get_or};
-ghost use Rattle.text.specs.Append.{Appended};
-ghost use Rattle.text.specs.Listing.{verdict_word, function_line, spawn_line, refusal_line};
+// The fields and the lines of a listing.
+ghost use Rattle.std.specs.Prelude.{◌+◌, ◌≤◌, ◌≡◌, ◌++◌, length};
+ghost use Rattle.table.specs.Answer.{number_of};
+ghost use Rattle.size.specs.Numbers.{at};
+ghost use Rattle.text.specs.Listing.{size_field, four_fields, verdict_word, function_line, spawn_line, refusal_line};
 
-use crate::append::{put_byte, put_decimal, put_four, put_word};
-
-// The line of function f.
-pub(crate) fn put_function(out: &mut [u8], at: usize, sizes: &[u32], f: usize) -> usize
-    requires { (at + 107 ≤ length out.old) × (4 * f + 4 ≤ length sizes.now) }
-    ensures { Appended out.old at (function_line (λ k. get_or sizes.now (4 * f + k) 0) f) out.new result }
-{
-    let number = put_word(out, at, b"F ");
-    let fields = put_decimal(out, number, f);
-    let end = put_four(out, fields, sizes, 4 * f);
-    put_byte(out, end, 10)
-}
+use crate::text::{ROOM, Text};
+use table::refusal::Refused;
 
 // The word of a spawn's verdict.
-#[tactic(auto, using(crate::proofs::Appending::appended_as, crate::proofs::Fields::verdict_unmerged, crate::proofs::Fields::verdict_guarded, crate::proofs::Fields::verdict_unguarded))]
-fn put_verdict(out: &mut [u8], at: usize, verdict: u8) -> usize
-    requires { at + 9 ≤ length out.old }
-    ensures { Appended out.old at (verdict_word verdict) out.new result }
+#[tactic(auto, unfolding(crate::specs::Listing::verdict_word))]
+fn verdict_word(verdict: u8) -> &'static [u8]
+    ensures word { result.now ≡ verdict_word verdict }
+    ensures short { length result.now ≤ 9 }
 {
-    if verdict == 1 {
-        return put_word(out, at, b"unmerged");
+    match verdict {
+        1 => b"unmerged",
+        2 => b"guarded",
+        _ => b"unguarded",
     }
-    if verdict == 2 {
-        return put_word(out, at, b"guarded");
-    }
-    put_word(out, at, b"unguarded")
 }
 
-// The line of spawn n, whose four sizes stand from place x on.
-pub(crate) fn put_spawn(
-    out: &mut [u8],
-    at: usize,
-    verdict: u8,
-    sizes: &[u32],
-    x: usize,
-    n: usize,
-) -> usize
-    requires { (at + 117 ≤ length out.old) × (x + 4 ≤ length sizes.now) }
-    ensures { Appended out.old at (spawn_line verdict (λ k. get_or sizes.now (x + k) 0) n) out.new result }
-{
-    let number = put_word(out, at, b"S ");
-    let space = put_decimal(out, number, n);
-    let word = put_byte(out, space, 32);
-    let fields = put_verdict(out, word, verdict);
-    let end = put_four(out, fields, sizes, x);
-    put_byte(out, end, 10)
-}
+impl Text {
+    // A size, behind a space: its bytes, or `unbounded` for 65,536.
+    #[tactic(auto, unfolding(crate::specs::Listing::size_field, crate::specs::Listing::size_text))]
+    fn push_size(&mut self, size: u32)
+        requires { length self.old + 21 ≤ ROOM }
+        ensures appended { self.new ≡ self.old ++ size_field size }
+        ensures room { length self.new ≤ length self.old + 21 }
+    {
+        self.push(b' ');
+        match size {
+            65536 => self.push_bytes(b"unbounded"),
+            _ => self.push_decimal(size as usize),
+        }
+    }
 
-// `refused N at P`.
-pub(crate) fn put_refusal(out: &mut [u8], at: usize, number: u32, place: usize) -> usize
-    requires { at + 53 ≤ length out.old }
-    ensures { Appended out.old at (refusal_line number place) out.new result }
-{
-    let first = put_word(out, at, b"refused ");
-    let word = put_decimal(out, first, number as usize);
-    let second = put_word(out, word, b" at ");
-    let end = put_decimal(out, second, place);
-    put_byte(out, end, 10)
+    // The four sizes that stand first.
+    #[tactic(auto, unfolding(crate::specs::Listing::four_fields))]
+    fn push_four(&mut self, sizes: &[u32])
+        requires room { length self.old + 84 ≤ ROOM }
+        requires four { 4 ≤ length sizes.now }
+        ensures appended { self.new ≡ self.old ++ four_fields (at sizes.now) }
+        ensures room { length self.new ≤ length self.old + 84 }
+    {
+        self.push_size(sizes[0]);
+        self.push_size(sizes[1]);
+        self.push_size(sizes[2]);
+        self.push_size(sizes[3]);
+    }
+
+    // The line of function f, whose sizes stand first.
+    #[tactic(auto, unfolding(crate::specs::Listing::function_line))]
+    pub(crate) fn push_function(&mut self, f: usize, sizes: &[u32])
+        requires room { length self.old + 107 ≤ ROOM }
+        requires four { 4 ≤ length sizes.now }
+        ensures appended { self.new ≡ self.old ++ function_line (at sizes.now) f }
+        ensures room { length self.new ≤ length self.old + 107 }
+    {
+        self.push_bytes(b"F ");
+        self.push_decimal(f);
+        self.push_four(sizes);
+        self.push(b'\n');
+    }
+
+    // The line of spawn n, likewise.
+    #[tactic(auto, unfolding(crate::specs::Listing::spawn_line))]
+    pub(crate) fn push_spawn(&mut self, n: usize, verdict: u8, sizes: &[u32])
+        requires room { length self.old + 117 ≤ ROOM }
+        requires four { 4 ≤ length sizes.now }
+        ensures appended { self.new ≡ self.old ++ spawn_line verdict (at sizes.now) n }
+        ensures room { length self.new ≤ length self.old + 117 }
+    {
+        self.push_bytes(b"S ");
+        self.push_decimal(n);
+        self.push(b' ');
+        self.push_bytes(verdict_word(verdict));
+        self.push_four(sizes);
+        self.push(b'\n');
+    }
+
+    // `refused N at P`, as a refusal is displayed. A formatter may fail, which a listing can't.
+    #[tactic(auto, unfolding(crate::specs::Listing::refusal_line))]
+    pub(crate) fn push_refusal(&mut self, refused: Refused)
+        requires { length self.old + 53 ≤ ROOM }
+        ensures { self.new ≡ self.old ++ refusal_line (number_of refused.cause) refused.place }
+    {
+        self.push_bytes(b"refused ");
+        self.push_decimal(u32::from(refused.cause) as usize);
+        self.push_bytes(b" at ");
+        self.push_decimal(refused.place);
+        self.push(b'\n');
+    }
 }

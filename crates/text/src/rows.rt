@@ -1,65 +1,51 @@
 // The lines of all functions, and of all spawns.
-ghost use Rattle.std.specs.Prelude.{◌+◌, ◌*◌, ◌<◌, ◌≤◌, length, get_or};
-ghost use Rattle.table.specs.Answer.{Ready};
-ghost use Rattle.table.specs.Program.{program_of};
-ghost use Rattle.size.specs.Numbers.{at};
-ghost use Rattle.text.specs.Append.{Appended};
-ghost use Rattle.text.specs.Listing.{joined, function_line, of_node_text};
+ghost use Rattle.std.specs.Prelude.{[], ◌+◌, ◌*◌, ◌<◌, ◌≤◌, ◌≡◌, ◌++◌, length};
+ghost use Rattle.text.specs.Listing.{joined};
+ghost use Rattle.text.specs.Chosen.{function_text, node_text, text_of};
 
-use crate::lines::{put_function, put_spawn};
-use table::Counts;
+use crate::chosen::Chosen;
+use crate::text::{ROOM, Text};
 
-pub(crate) fn put_functions(out: &mut [u8], from: usize, sizes: &[u32], functions: usize) -> usize
-    requires { (from + 107 * functions ≤ length out.old) × (4 * functions ≤ length sizes.now) }
-    ensures { Appended out.old from (joined (λ f. function_line (λ k. get_or sizes.now (4 * f + k) 0) f) functions) out.new result }
-{
-    let mut end = from;
-    let mut f: usize = 0;
-    while f < functions {
-        end = put_function(out, end, sizes, f);
-        f += 1;
+#[tactic(auto, using(crate::proofs::Joining::rows))]
+impl Text {
+    pub(crate) fn push_functions(&mut self, chosen: &Chosen<'_>)
+        requires { length self.old + 107 * chosen.now.program.of.functions ≤ ROOM }
+        ensures appended { self.new ≡ self.old ++ joined (function_text chosen.now) chosen.now.program.of.functions }
+        ensures room { length self.new ≤ length self.old + 107 * chosen.now.program.of.functions }
+    {
+        for f in 0..chosen.program.of.functions {
+            self.push_function(f, &chosen.sizes[4 * f..]);
+        }
     }
-    end
-}
 
-// The line of node n, if it is a spawn.
-fn put_node(
-    out: &mut [u8],
-    from: usize,
-    t: &[u8],
-    of: Counts,
-    verdicts: &[u8],
-    sizes: &[u32],
-    n: usize,
-) -> usize
-    requires ready { Ready t.now of × (n < of.nodes) × (from + 117 ≤ length out.old) }
-    requires n_in_bounds { (n < length verdicts.now) × (4 * (of.functions + of.nodes) ≤ length sizes.now) }
-    ensures { Appended out.old from (of_node_text (program_of t.now) (at verdicts.now) (at sizes.now) n) out.new result }
-{
-    if program::sort(t, of, n) == 2 {
-        let x = 4 * (of.functions + n);
-        return put_spawn(out, from, verdicts[n], sizes, x, n);
+    // The line of node n, if it is a spawn.
+    fn push_node(&mut self, chosen: &Chosen<'_>, n: usize)
+        requires room { length self.old + 117 ≤ ROOM }
+        requires node { n < chosen.now.program.of.nodes }
+        ensures appended { self.new ≡ self.old ++ node_text chosen.now n }
+        ensures room { length self.new ≤ length self.old + 117 }
+    {
+        if chosen.program.is_spawn(n) {
+            let at = 4 * (chosen.program.of.functions + n);
+            self.push_spawn(n, chosen.verdicts[n], &chosen.sizes[at..]);
+        }
     }
-    from
-}
 
-pub(crate) fn put_spawns(
-    out: &mut [u8],
-    from: usize,
-    t: &[u8],
-    of: Counts,
-    verdicts: &[u8],
-    sizes: &[u32],
-) -> usize
-    requires ready { Ready t.now of × (from + 117 * of.nodes ≤ length out.old) }
-    requires nodes_in_bounds { (of.nodes ≤ length verdicts.now) × (4 * (of.functions + of.nodes) ≤ length sizes.now) }
-    ensures { Appended out.old from (joined (of_node_text (program_of t.now) (at verdicts.now) (at sizes.now)) of.nodes) out.new result }
-{
-    let mut end = from;
-    let mut n: usize = 0;
-    while n < of.nodes {
-        end = put_node(out, end, t, of, verdicts, sizes, n);
-        n += 1;
+    pub(crate) fn push_spawns(&mut self, chosen: &Chosen<'_>)
+        requires { length self.old + 117 * chosen.now.program.of.nodes ≤ ROOM }
+        ensures { self.new ≡ self.old ++ joined (node_text chosen.now) chosen.now.program.of.nodes }
+    {
+        for n in 0..chosen.program.of.nodes {
+            self.push_node(chosen, n);
+        }
     }
-    end
+
+    // The lines of the functions, and then those of the spawns.
+    pub(crate) fn push_listing(&mut self, chosen: &Chosen<'_>)
+        requires { self.old ≡ [] }
+        ensures { self.new ≡ text_of chosen.now }
+    {
+        self.push_functions(chosen);
+        self.push_spawns(chosen);
+    }
 }
