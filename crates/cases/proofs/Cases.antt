@@ -2,7 +2,6 @@
 use Prim.Native.Nat.{ℕ}
 use mathlib.Core.Path.{refl}
 use mathlib.Core.List.{List, [], ◌∷◌}
-use Rattle.std.specs.Option.{option_or}
 use Rattle.table.specs.Below.{earliest, any, count}
 use Rattle.table.specs.Refusal.{refusal}
 use Rattle.table.specs.Record.{kind_of, sort_of, field_a, field_b, field_c, functions, nodes, edges}
@@ -76,5 +75,5 @@ evidence =
     ∷ []
 
 pub cases_hold : CasesHold
-unfolding refusal option_or checks earliest broken unlisted out_of_order too_many no_entry absent foreign not_plain any count kind_of sort_of field_a field_b field_c functions nodes edges row rows_of every bits grown set_of reach_of sets_test run settled safe_test order_test choice_test obstacle best_test cases_test digits decimal size_text size_field four_fields verdict_word function_line spawn_line joined listing
+unfolding refusal checks earliest broken unlisted out_of_order too_many no_entry absent foreign not_plain any count kind_of sort_of field_a field_b field_c functions nodes edges row rows_of every bits grown set_of reach_of sets_test run settled safe_test order_test choice_test obstacle best_test cases_test digits decimal size_text size_field four_fields verdict_word function_line spawn_line joined listing
 cases_hold frame a b c d e f g = all_hold (cases frame a b c d e f g) evidence refl
