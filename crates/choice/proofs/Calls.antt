@@ -12,11 +12,7 @@ use Rattle.table.specs.Checks.{checks, Accepted}
 use Rattle.table.specs.Program.{program_of}
 use Rattle.table.proofs.Refusals.{refusal_pass, refusal_here, refusal_none, not_applied, refusal_over_none}
 use Rattle.rules.specs.Rules.{entries}
-use Rattle.sizes.specs.Call.{done, refused, result_of}
-use Rattle.sizes.specs.Known.{SeenFor, AdmittedFor}
-use Rattle.sizes.specs.declared.Answer.{Answer}
-use Rattle.sizes.specs.declared.Answer.TheVariants.{Done}
-use Rattle.sizes.specs.declared.admit.Seen.{Seen}
+use Rattle.sizes.specs.Call.{done, refused}
 use Rattle.sizes.proofs.Calls.{told_refused, told_done, none_refused, table_accepted, sizes_short, sizes_long, sizes_fit}
 use Rattle.choice.specs.Call.{BestCall, few_verdicts, buffer_checks, best_checks, best_result}
 
@@ -57,23 +53,18 @@ verdicts_fit x e =
     ltb-false _ _
     (not_applied (few_verdicts x) (program_of x.table).nodes (refusal_none x buffer_checks e (record { number = 10; place = λ y. cond (few_verdicts y) (Some (program_of y.table).nodes) None }) (search in_List depth 40)))
 
--- what an admitted call has: nothing is refused, both results fit, and its table is known
-pub record Admission (x : BestCall) (seen : Seen) : Type 0 where
-  pub done_is : done ≡ best_result x
-  pub choice_fits : (program_of x.table).nodes ≤ x.verdicts
-  pub sizes_fits : entries (program_of x.table) ≤ x.buffer
-  pub known : SeenFor x.table seen
+-- both results fit
+pub record Fits (x : BestCall) : Type 0 where
+  pub verdicts : (program_of x.table).nodes ≤ x.verdicts
+  pub sizes : entries (program_of x.table) ≤ x.buffer
 
-pub admission : (x : BestCall) (answer : Answer) (seen : Seen) → answer ≡ Done → result_of answer ≡ best_result x → AdmittedFor x.table answer seen → Admission x seen
+pub done_fits : (x : BestCall) → done ≡ best_result x → Fits x
 unfolding best_result best_checks buffer_checks
-admission x answer seen e r a =
-    let d : done ≡ best_result x = rw e at r in
+done_fits x d =
     let n = none_refused best_checks x d in
     let t = table_accepted (λ (y : BestCall). y.table) buffer_checks x n in
     let b = sym (past_table x t) ∙ n in
     record {
-      done_is = d;
-      choice_fits = verdicts_fit x b;
-      sizes_fits = sizes_fit (λ (y : BestCall). y.table) (λ (y : BestCall). y.buffer) x buffer_checks (search in_List depth 40) b;
-      known = rw e at a;
+      verdicts = verdicts_fit x b;
+      sizes = sizes_fit (λ (y : BestCall). y.table) (λ (y : BestCall). y.buffer) x buffer_checks (search in_List depth 40) b;
     }

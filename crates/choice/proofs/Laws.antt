@@ -11,8 +11,9 @@ use Rattle.table.proofs.Laws.{same_program}
 use Rattle.rules.specs.Choice.{ChoiceFor}
 use Rattle.rules.specs.Rules.{entries}
 use Rattle.sizes.specs.Call.{choice_of, result_of}
-use Rattle.sizes.specs.declared.Answer.{Answer}
-use Rattle.sizes.specs.declared.Answer.TheVariants.{Done, Refused}
+use Rattle.std.specs.Prelude.{Ok, Err}
+use Rattle.std.specs.Prelude.{Result as CodeResult}
+use Rattle.table.specs.declared.refusal.Refused.{Refused}
 use Rattle.sizes.proofs.Calls.{is_done}
 use Rattle.choice.specs.Beats.{Best, Returned}
 use Rattle.choice.specs.Call.{best_call, best_result, LeavesBoth}
@@ -36,8 +37,8 @@ pub returned_same : (t u : List ℕ) → SameButEdges t u → (r s : ℕ → ℕ
 returned_same t u e r s p = returned_unique (program_of u) r s (subst (λ (g : Program). Returned g r) (same_program t u e) p)
 
 -- "there is one for every accepted table and all lent buffers to which neither 10 nor 11 applies"
-pub one_returned : (t old_verdicts new_verdicts old_sizes new_sizes : List ℕ) (answer : Answer) → Accepted t → (program_of t).nodes ≤ length old_verdicts → entries (program_of t) ≤ length old_sizes → result_of answer ≡ best_result (best_call t (length old_verdicts) (length old_sizes)) → LeavesBoth t old_verdicts new_verdicts old_sizes new_sizes answer → (answer ≡ Done) × Returned (program_of t) (choice_of new_verdicts)
-one_returned t v w s u Done a b c r l = (refl, l.returned)
-one_returned t v w s u (Refused number place) a b c r l =
+pub one_returned : {X : Type 0} (t old_verdicts new_verdicts old_sizes new_sizes : List ℕ) (answer : CodeResult X Refused) → Accepted t → (program_of t).nodes ≤ length old_verdicts → entries (program_of t) ≤ length old_sizes → result_of answer ≡ best_result (best_call t (length old_verdicts) (length old_sizes)) → LeavesBoth t old_verdicts new_verdicts old_sizes new_sizes answer → ((x : X) × (answer ≡ Ok x)) × Returned (program_of t) (choice_of new_verdicts)
+one_returned t v w s u (Ok x) a b c r l = ((x, refl), l.returned)
+one_returned t v w s u (Err e) a b c r l =
     absurd
     (true≢false (ap is_done (nothing_refused (best_call t (length v) (length s)) a (program_of t).nodes refl b (entries (program_of t)) refl c ∙ sym r)))

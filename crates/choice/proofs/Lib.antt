@@ -2,3 +2,5 @@
 pub mod Laws
 pub mod Calls
 pub mod Winning
+-- How the promises come about.
+mod Leaving

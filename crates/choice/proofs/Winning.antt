@@ -1,24 +1,26 @@
 -- What the two walks come to is safe, no safe choice beats it, and no other choice is like that.
 use Prim.Native.Nat.{ℕ, zero, suc, ◌<◌, ◌≤◌}
 use mathlib.Core.Path.{◌≡◌, sym, ap, ◌∙◌, subst}
-use mathlib.Core.List.{List}
 use mathlib.Core.Logic.{◌⊎◌, inl, inr, ⊎_elim}
 use native.Mathlib.Nat.{eq-or-lt_of_le}
 use native.Mathlib.Omega.{arith}
 use native.Mathlib.Decide.{ℕ_discrete, dec_le}
 use Rattle.table.specs.Record.{spawn}
-use Rattle.table.specs.Checks.{Accepted}
-use Rattle.table.specs.Program.{Program, program_of}
+use Rattle.table.specs.Program.{Program}
 use Rattle.table.specs.WellFormed.{WellFormed}
 use Rattle.table.proofs.Laws.{well_formed}
 use Rattle.rules.specs.Choice.{guarded, unguarded, ChoiceFor}
 use Rattle.sizes.specs.Call.{choice_of}
+use Rattle.sizes.specs.Trials.{known_program, PreparedFor}
 use Rattle.sizes.specs.declared.trials.Prepared.{Prepared}
+use Rattle.sizes.proofs.Trying.{holds_least}
 use Rattle.safety.specs.Safety.{Safe}
 use Rattle.safety.proofs.Laws.{safe_alike}
 use Rattle.preference.specs.Preference.{IsSpawn, ComesFirst, InOrder}
 use Rattle.choice.specs.Beats.{Alike, Wins, Beats, Best, Returned}
+use Rattle.choice.specs.Best.{BestOf}
 use Rattle.search.specs.Walk.{Unmerged, Walked, Searched}
+use Rattle.search.specs.declared.found.Found.{Found}
 use Rattle.preference.proofs.Firsts.{stands_first}
 use Rattle.search.proofs.Laws.{nothing_merged}
 
@@ -203,8 +205,14 @@ module _ (g : Program) (w : WellFormed g) (count : ℕ) (order : ℕ → ℕ) (o
   pub walks_return : Returned g final
   walks_return = return_unbeaten g w count order o final final_for two.safe beaten_by_none
 
--- so what a search comes to is the choice to return
-pub searched_returned : {t : List ℕ} {p : Prepared} {old new sizes : List ℕ} → Accepted t → Searched t p old new sizes → Returned (program_of t) (choice_of new)
-searched_returned {t} {new = new} a x =
+-- so what a search comes to is the choice to return, with its sizes
+pub searched_best : {p : Prepared} {found : Found} → PreparedFor p → Searched p found → BestOf p.known found
+searched_best {p} {found} q x =
     let m = x.merged in
-    walks_return (program_of t) (well_formed t a) x.count x.order x.in_order m.start x.middle (choice_of new) m.unmerged_is m.walked x.walked
+    let w = well_formed p.known.program.table.now p.known.program.ready.accepted_is in
+    record {
+      returned = walks_return (known_program p.known) w x.count x.order x.in_order m.start x.middle (choice_of found.verdicts) m.unmerged_is m.walked x.walked;
+      sizes = x.holds.sizes;
+      least = holds_least q x.holds;
+      sizes_are = x.holds.written;
+    }

@@ -4,9 +4,11 @@ use Rattle.table.specs.Refusal.{Check, over, refusal}
 use Rattle.table.specs.Checks.{checks}
 use Rattle.table.specs.Program.{program_of}
 use Rattle.size.specs.Numbers.{Written}
-use Rattle.sizes.specs.Call.{choice_of, sizes_row, Result, result_for, Leaves}
-use Rattle.sizes.specs.declared.Answer.{Answer}
-use Rattle.sizes.specs.declared.Answer.TheVariants.{Done, Refused}
+use Rattle.rules.specs.Rules.{entries, LeastSizes}
+use Rattle.sizes.specs.Call.{choice_of, sizes_row, Result, result_for}
+use Rattle.std.specs.Prelude.{Ok, Err}
+use Rattle.std.specs.Prelude.{Result as CodeResult}
+use Rattle.table.specs.declared.refusal.Refused.{Refused}
 use Rattle.choice.specs.Beats.{Returned}
 
 pub record BestCall : Type 0 where
@@ -44,9 +46,9 @@ pub record LeavesBest (t old_verdicts new_verdicts old_sizes new_sizes : List �
   -- "Longer buffers keep their tail."
   pub written : Written (program_of t).nodes (choice_of new_verdicts) old_verdicts new_verdicts
   -- "and its sizes into the sizes buffer"
-  pub sizes : Leaves t new_verdicts old_sizes Done new_sizes
+  pub sizes : (least : ℕ → ℕ) × LeastSizes (program_of t) (choice_of new_verdicts) least × Written (entries (program_of t)) least old_sizes new_sizes
 
 -- "A refusal writes nothing."
-abbrev pub LeavesBoth : List ℕ → List ℕ → List ℕ → List ℕ → List ℕ → Answer → Type 0
-LeavesBoth t old_verdicts new_verdicts old_sizes new_sizes Done = LeavesBest t old_verdicts new_verdicts old_sizes new_sizes
-LeavesBoth t old_verdicts new_verdicts old_sizes new_sizes (Refused number place) = (new_verdicts ≡ old_verdicts) × (new_sizes ≡ old_sizes)
+abbrev pub LeavesBoth : {X : Type 0} → List ℕ → List ℕ → List ℕ → List ℕ → List ℕ → CodeResult X Refused → Type 0
+LeavesBoth t old_verdicts new_verdicts old_sizes new_sizes (Ok x) = LeavesBest t old_verdicts new_verdicts old_sizes new_sizes
+LeavesBoth t old_verdicts new_verdicts old_sizes new_sizes (Err r) = (new_verdicts ≡ old_verdicts) × (new_sizes ≡ old_sizes)

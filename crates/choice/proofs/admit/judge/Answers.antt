@@ -1,6 +1,5 @@
 use Prim.Native.Nat.{◌+◌, ◌*◌}
 use native.Mathlib.Omega.{arith}
-use Rattle.table.proofs.Ready.{few_functions, few_nodes, functions_are, nodes_are}
 use Rattle.choice.specs.Call.{best_call}
 use Rattle.choice.proofs.Calls.{verdicts_refused, buffer_refused, nothing_refused}
 use Rattle.choice.proofs.admit.judge.Goals as goal
@@ -8,35 +7,17 @@ use Rattle.choice.proofs.admit.judge.Goals as goal
 pub returns-then-verdicts-nodes : goal.returns-then-verdicts-nodes
 returns-then-verdicts-nodes c =
     let a = c.args in
-    let r = c.requires in
-    let x = best_call a.t.now a.verdicts a.buffer in
-    let e = nodes_are a.t.now a.of r in
-    verdicts_refused x r.accepted_is a.of.nodes e c.if-verdicts-nodes.true
-
-pub overflow_add-needed : goal.overflow_add-needed
-overflow_add-needed c =
-    let a = c.args in
-    let r = c.requires in
-    omega (arith, few_functions a.t.now a.of r, few_nodes a.t.now a.of r)
-
-pub overflow_mul-needed : goal.overflow_mul-needed
-overflow_mul-needed c =
-    let a = c.args in
-    let r = c.requires in
-    omega (arith, few_functions a.t.now a.of r, few_nodes a.t.now a.of r)
+    let p = a.program.now in
+    verdicts_refused (best_call p.table.now a.verdicts a.buffer) p.ready.accepted_is p.of.nodes p.nodes_are c.if-verdicts-nodes.true
 
 pub returns-then-buffer-needed : goal.returns-then-buffer-needed
 returns-then-buffer-needed c =
     let a = c.args in
-    let r = c.requires in
-    let x = best_call a.t.now a.verdicts a.buffer in
-    let e = nodes_are a.t.now a.of r in
-    buffer_refused x r.accepted_is a.of.nodes e c.if-verdicts-nodes.false (4 * (a.of.functions + a.of.nodes)) (omega (arith, functions_are a.t.now a.of r)) c.if-buffer-needed.true
+    let p = a.program.now in
+    buffer_refused (best_call p.table.now a.verdicts a.buffer) p.ready.accepted_is p.of.nodes p.nodes_are c.if-verdicts-nodes.false (4 * (p.of.functions + p.of.nodes)) (omega (arith, p.functions_are, p.nodes_are)) c.if-buffer-needed.true
 
 pub returns : goal.returns
 returns c =
     let a = c.args in
-    let r = c.requires in
-    let x = best_call a.t.now a.verdicts a.buffer in
-    let e = nodes_are a.t.now a.of r in
-    nothing_refused x r.accepted_is a.of.nodes e c.if-verdicts-nodes.false (4 * (a.of.functions + a.of.nodes)) (omega (arith, functions_are a.t.now a.of r)) c.if-buffer-needed.false
+    let p = a.program.now in
+    nothing_refused (best_call p.table.now a.verdicts a.buffer) p.ready.accepted_is p.of.nodes p.nodes_are c.if-verdicts-nodes.false (4 * (p.of.functions + p.of.nodes)) (omega (arith, p.functions_are, p.nodes_are)) c.if-buffer-needed.false
