@@ -4,9 +4,7 @@ use Rattle.table.specs.Refusal.{Check, over, refusal}
 use Rattle.table.specs.Checks.{checks}
 use Rattle.table.specs.Program.{program_of}
 use Rattle.size.specs.Numbers.{Written}
-use Rattle.rules.specs.Rules.{entries, LeastSizes}
-use Rattle.sizes.specs.Call.{choice_of, sizes_row, Result, result_for}
-use Rattle.std.specs.Prelude.{Ok, Err}
+use Rattle.sizes.specs.Call.{choice_of, sizes_row, Result, done, refused, result_for, result_of, LeavesFor}
 use Rattle.std.specs.Prelude.{Result as CodeResult}
 use Rattle.table.specs.declared.refusal.Refused.{Refused}
 use Rattle.choice.specs.Beats.{Returned}
@@ -46,9 +44,12 @@ pub record LeavesBest (t old_verdicts new_verdicts old_sizes new_sizes : List �
   -- "Longer buffers keep their tail."
   pub written : Written (program_of t).nodes (choice_of new_verdicts) old_verdicts new_verdicts
   -- "and its sizes into the sizes buffer"
-  pub sizes : (least : ℕ → ℕ) × LeastSizes (program_of t) (choice_of new_verdicts) least × Written (entries (program_of t)) least old_sizes new_sizes
+  pub sizes : LeavesFor t new_verdicts old_sizes done new_sizes
 
--- "A refusal writes nothing."
+-- by what the call comes to; "A refusal writes nothing."
+abbrev pub LeavesBothFor : List ℕ → List ℕ → List ℕ → List ℕ → List ℕ → Result → Type 0
+LeavesBothFor t old_verdicts new_verdicts old_sizes new_sizes done = LeavesBest t old_verdicts new_verdicts old_sizes new_sizes
+LeavesBothFor t old_verdicts new_verdicts old_sizes new_sizes (refused number place) = (new_verdicts ≡ old_verdicts) × (new_sizes ≡ old_sizes)
+
 abbrev pub LeavesBoth : {X : Type 0} → List ℕ → List ℕ → List ℕ → List ℕ → List ℕ → CodeResult X Refused → Type 0
-LeavesBoth t old_verdicts new_verdicts old_sizes new_sizes (Ok x) = LeavesBest t old_verdicts new_verdicts old_sizes new_sizes
-LeavesBoth t old_verdicts new_verdicts old_sizes new_sizes (Err r) = (new_verdicts ≡ old_verdicts) × (new_sizes ≡ old_sizes)
+LeavesBoth t old_verdicts new_verdicts old_sizes new_sizes answer = LeavesBothFor t old_verdicts new_verdicts old_sizes new_sizes (result_of answer)
