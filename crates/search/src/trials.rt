@@ -15,6 +15,7 @@ use sizes::find::write;
 use sizes::trials::{Prepared, find_from};
 
 // The verdicts, with this one for each that waits for it.
+#[tactic(auto, using(crate::proofs::Walking::raised_more))]
 fn raised(verdicts: &[u8; 512], verdict: Verdict) -> [u8; 512]
     ensures { result ≡ map (raised_to (level verdict)) verdicts.now }
 {
@@ -42,6 +43,7 @@ impl Found {
     }
 
     // Finds the sizes of the choice there is, from zeros.
+    #[tactic(auto, using(sizes::proofs::Trying::zeros_start))]
     pub(crate) fn find_sizes(&mut self, prepared: &Prepared<'_>)
         requires prepared_for { PreparedFor prepared.now }
         requires zeros { self.old.sizes ≡ replicate 2304 0 }
