@@ -46,7 +46,7 @@ pub record LeavesBest (t old_verdicts new_verdicts old_sizes new_sizes : List �
   -- "and its sizes into the sizes buffer"
   pub sizes : LeavesFor t new_verdicts old_sizes done new_sizes
 
--- by what the call comes to; "A refusal writes nothing."
+-- "A refusal writes nothing."
 abbrev pub LeavesBothFor : List ℕ → List ℕ → List ℕ → List ℕ → List ℕ → Result → Type 0
 LeavesBothFor t old_verdicts new_verdicts old_sizes new_sizes done = LeavesBest t old_verdicts new_verdicts old_sizes new_sizes
 LeavesBothFor t old_verdicts new_verdicts old_sizes new_sizes (refused number place) = (new_verdicts ≡ old_verdicts) × (new_sizes ≡ old_sizes)

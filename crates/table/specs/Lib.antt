@@ -2,6 +2,7 @@
 pub mod Below
 pub mod Refusal
 pub mod Record
+pub mod Kind
 pub mod Checks
 pub mod Answer
 pub mod Program

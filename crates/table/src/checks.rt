@@ -5,6 +5,7 @@ ghost use Rattle.table.specs.Checks.{unlisted, out_of_order, absent, foreign, no
 ghost use Rattle.table.specs.Answer.{CountsOf};
 
 use crate::Counts;
+use crate::kinds::{Kind, listed_kind};
 use crate::record::{field_a, field_b, field_c, kind, sort};
 
 fn has_target(s: u8) -> bool
@@ -18,13 +19,15 @@ fn has_target(s: u8) -> bool
 pub(crate) fn is_unlisted(t: &[u8], r: usize) -> bool
     ensures { result ≡ unlisted t.now r }
 {
-    let k = kind(t, r);
     let s = sort(t, r);
     let b = field_b(t, r);
     let c = field_c(t, r);
-    !((k == 1) & (s <= 1)
-        | (k == 2) & (s <= 3) & (has_target(s) | (b == 0)) & (c == 0)
-        | (k == 3) & (s == 0) & (c == 0))
+    !match listed_kind(t, r) {
+        Some(Kind::Function) => s <= 1,
+        Some(Kind::Node) => (s <= 3) & (has_target(s) | (b == 0)) & (c == 0),
+        Some(Kind::Edge) => (s == 0) & (c == 0),
+        None => false,
+    }
 }
 
 // 3: a kind lower than that of the record before.
@@ -48,14 +51,13 @@ pub(crate) fn is_absent(t: &[u8], of: Counts, r: usize) -> bool
     requires { CountsOf t.now of }
     ensures { result ≡ absent t.now r }
 {
-    let functions = of.functions;
-    let nodes = of.nodes;
-    let k = kind(t, r);
     let a = field_a(t, r);
     let b = field_b(t, r);
-    (k == 1) & ((nodes <= a) | (nodes <= b))
-        | (k == 2) & ((functions <= a) | has_target(sort(t, r)) & (functions <= b))
-        | (k == 3) & ((nodes <= a) | (nodes <= b))
+    match listed_kind(t, r) {
+        Some(Kind::Function | Kind::Edge) => (of.nodes <= a) | (of.nodes <= b),
+        Some(Kind::Node) => (of.functions <= a) | has_target(sort(t, r)) & (of.functions <= b),
+        None => false,
+    }
 }
 
 // The owner of node n.
@@ -82,10 +84,13 @@ pub(crate) fn is_foreign(t: &[u8], of: Counts, r: usize) -> bool
     requires { CountsOf t.now of }
     ensures { result ≡ foreign t.now r }
 {
-    let k = kind(t, r);
     let a = owner(t, of, field_a(t, r));
     let b = owner(t, of, field_b(t, r));
-    (k == 1) & !((a == r) & (b == r)) | (k == 3) & !(a == b)
+    match listed_kind(t, r) {
+        Some(Kind::Function) => (a != r) | (b != r),
+        Some(Kind::Edge) => a != b,
+        Some(Kind::Node) | None => false,
+    }
 }
 
 // 8: a first or exit node that is not plain.

@@ -2,6 +2,7 @@
 #![tactic(auto)]
 
 mod checks;
+pub mod kinds;
 pub mod record;
 pub mod refusal;
 mod scan;
