@@ -10,6 +10,7 @@ use sync::Known;
 use table::refusal::{Cause, Refused};
 
 // Judges the lengths of both buffers.
+#[tactic(auto, using(crate::proofs::Calls::verdicts_refused, crate::proofs::Calls::buffer_refused, crate::proofs::Calls::nothing_refused))]
 fn judge(program: &Program<'_>, verdicts: usize, buffer: usize) -> Result<(), Refused>
     ensures { result_of result ≡ best_result (best_call program.now.table.now verdicts buffer) }
 {

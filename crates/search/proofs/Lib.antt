@@ -1,4 +1,4 @@
--- For the crate above: the choice that a walk starts from, and what fits.
+-- For the crate above: the choice that a walk starts from.
 pub mod Laws
 -- How the promises come about.
 mod Starting

@@ -1,14 +1,14 @@
 -- One spawn more on a walk: what becomes of its verdict.
-use Rattle.std.proofs.Common.{◌≡◌, ℕ, suc, ◌+◌, ◌-◌, ◌<◌, ◌≤◌, Bool, true, false, cond, ◌⊎◌, List, length, map, set, take, drop, ◌++◌, sym, refl, ap, ◌∙◌, subst, inl, inr, ⊎_elim, eq-or-lt_of_le, arith, get_or-set_other, length-set, get_or-set_same, eq-eqb, ne_eqb}
+use Rattle.std.proofs.Common.{◌≡◌, ℕ, suc, ◌+◌, ◌-◌, ◌<◌, ◌≤◌, Bool, true, false, cond, ◌⊎◌, List, length, map, set, take, drop, ◌++◌, sym, refl, ap, ◌∙◌, inl, inr, ⊎_elim, eq-or-lt_of_le, arith, get_or-set_other, length-set, get_or-set_same, eq-eqb, ne_eqb, eqb, eqb-true}
+use Rattle.std.proofs.lemmas.Bool.{eqb-false}
 use native.Mathlib.Decide.{ℕ_discrete}
 use Rattle.std.proofs.lemmas.List.{get_or-map, get_or-take}
 use Rattle.std.proofs.lemmas.List.Edits.{map_over_more}
 use Rattle.std.proofs.lemmas.Grind.{get_or_default_zero}
-use Rattle.table.specs.Record.{spawn}
 use Rattle.table.specs.Program.{Program}
 use Rattle.table.proofs.Laws.{well_formed}
 use Rattle.size.specs.Numbers.{at}
-use Rattle.rules.specs.Choice.{guarded, AtMost}
+use Rattle.rules.specs.Choice.{AtMost}
 use Rattle.sizes.specs.Call.{choice_of}
 use Rattle.sizes.specs.Trials.{known_program, PreparedFor, StartsFor, Holds}
 use Rattle.sizes.specs.declared.trials.Prepared.{Prepared}
@@ -17,7 +17,9 @@ use Rattle.safety.specs.Safety.{Safe}
 use Rattle.safety.specs.Trial.{Tried, adopted, rejected}
 use Rattle.safety.proofs.Laws.{unmerged_safe}
 use Rattle.preference.specs.Preference.{InOrder}
-use Rattle.search.specs.Walk.{Unmerged, raised_to, OthersZero, Walked, Merged}
+use Rattle.search.specs.declared.verdict.Verdict.{Verdict}
+use Rattle.search.specs.Verdict.{level}
+use Rattle.search.specs.Walk.{Unmerged, raised_to, Walked}
 use Rattle.search.proofs.Laws.{nothing_merged}
 
 -- the last of the first i + 1, or one before it
@@ -25,13 +27,6 @@ last_or_before : (j i : ℕ) → j < i + 1 → (j ≡ i) ⊎ (j < i)
 last_or_before j i h = eq-or-lt_of_le (omega arith)
 
 module _ (g : Program) (k : ℕ) (order from : ℕ → ℕ) where
-  pub walked_none : Safe g from → Walked g k 0 order from from
-  walked_none s = record {
-    safe = s;
-    moved = λ n h. inl refl;
-    blocked = λ j h. absurd (omega arith);
-  }
-
   -- What the walk did to n: nothing, or it gave it k.
   abbrev Moved : ℕ → (ℕ → ℕ) → ℕ → Type 0
   Moved i to n = (to n ≡ from n) ⊎ ((suc (from n) ≡ k) × (to n ≡ k) × ((j : ℕ) × (j < i) × (order j ≡ n)))
@@ -97,33 +92,6 @@ module _ (g : Program) (k : ℕ) (order from : ℕ → ℕ) where
               go (no p) (inl v) = omega (arith, others n p, b n h)
               go (no p) (inr (u, v, (z, y, o))) = omega (arith, others n p, q z (omega arith) (omega (arith, ap to o)), ap d o)
 
--- all that wait get k at once, and the choice is safe: the walk is done
-pub walked_all : (g : Program) (k count : ℕ) (order from up : ℕ → ℕ) → InOrder g count order → 2 ≤ k → OthersZero g from → ((n : ℕ) → n < g.nodes → up n ≡ raised_to k (from n)) → Safe g up → Walked g k count order from up
-walked_all g k count order from up o h zero e s = record {
-  safe = s;
-  moved = λ n l. change n l (ℕ_discrete (from n) (k - 1));
-  blocked = λ j l a b. absurd (omega (arith, b, raised_is (order j) (o.spawns j l).exists (omega arith)));
-}
-  where
-    raised_is : (n : ℕ) → n < g.nodes → from n ≡ k - 1 → up n ≡ k
-    raised_is n l a = e n l ∙ rw (eq-eqb (from n) (k - 1) a) refl
-
-    change : (n : ℕ) → n < g.nodes → Dec (from n ≡ k - 1) → (up n ≡ from n) ⊎ ((suc (from n) ≡ k) × (up n ≡ k) × ((j : ℕ) × (j < count) × (order j ≡ n)))
-    change n l (no a) = inl (e n l ∙ rw (ne_eqb (from n) (k - 1) a) refl)
-    change n l (yes a) = inr (omega arith, raised_is n l a, o.all n (record { exists = l; spawns = is_spawn_lem (ℕ_discrete (g.sort n) spawn) }))
-      where
-        is_spawn_lem : Dec (g.sort n ≡ spawn) → g.sort n ≡ spawn
-        is_spawn_lem (yes b) = b
-        is_spawn_lem (no b) = absurd (omega (arith, zero n l b))
-
--- a walk leaves the nodes that are no spawns
-pub others_stay : (g : Program) (k count : ℕ) (order from to : ℕ → ℕ) → InOrder g count order → Walked g k count order from to → OthersZero g from → OthersZero g to
-others_stay g k count order from to o w zero n h s = go (w.moved n h)
-  where
-    go : (to n ≡ from n) ⊎ ((suc (from n) ≡ k) × (to n ≡ k) × ((j : ℕ) × (j < count) × (order j ≡ n))) → to n ≡ 0
-    go (inl e) = e ∙ zero n h s
-    go (inr (a, b, (j, l, e))) = absurd (s (subst (λ (z : ℕ). g.sort z ≡ spawn) e (o.spawns j l).spawns))
-
 -- ---- trials
 
 -- raised verdicts, by node
@@ -161,56 +129,57 @@ module _ {p : Prepared} where
   tried_holds old choice (adopted y x z) e h = rw (e, y) z
   tried_holds old choice (rejected y x q) e h = rw (e, y, q) h
 
-  -- the walk comes to node n, which waits for the verdict k
-  module _ {count : ℕ} {order : ℕ → ℕ} (o : InOrder (known_program p.known) count order) (old : List ℕ) {s : List ℕ} (k i : ℕ) {n x : ℕ} (e : n ≡ order i) (l : i < count) (long : length old ≡ 512) (h : 1 ≤ k) (byte : x ≡ k) (is_next : choice_of old n ≡ k - 1) (holds : Holds p (choice_of old) s) where
-    here : order i < (known_program p.known).nodes
-    here = (o.spawns i l).exists
+-- ---- the walk comes to the next node of the order, among the spawns that the code goes over
 
-    fits : order i < length old
-    fits = omega (arith, here, few p)
+level_positive : (v : Verdict) → 1 ≤ level v
+level_positive v = grind arith
 
-    pub next_starts : StartsFor p (choice_of (set old n x)) s
-    next_starts = rw (e, byte) (starts_one old (order i) k fits (omega (arith, ap (choice_of old) e)) holds)
+module _ (p : Prepared) (spawns : List ℕ) {items : List ℕ} {count : ℕ} (o : InOrder (known_program p.known) count (at spawns)) (cut : items ≡ take count spawns) (long : length items ≡ count) (old : List ℕ) (fits : length old ≡ 512) (v : Verdict) (i : ℕ) (l : i < length items) where
+  here : at items i ≡ at spawns i
+  here = ap (λ (m : List ℕ). at m i) cut ∙ get_or-take count spawns i 0 (omega arith)
 
-    -- and a trial takes it one spawn further
-    pub next_tried : {from : ℕ → ℕ} → (w : Walked (known_program p.known) k i order from (choice_of old)) {new t : List ℕ} {r : Bool} → Tried p (choice_of (set old n x)) s t r → new ≡ cond r (set old n x) old → Walked (known_program p.known) k (i + 1) order from (choice_of new) × Holds p (choice_of new) t × (length new ≡ 512)
-    next_tried {from} w {new} {t} {r} tried taken = (go (rw (e, byte) at tried) (rw (e, byte) at taken), tried_holds old _ tried taken holds, rw taken (lengths r))
+  exists : at spawns i < (known_program p.known).nodes
+  exists = (o.spawns i (omega arith)).exists
+
+  -- it waits for the verdict: a trial is due,
+  module _ {s : List ℕ} {x : ℕ} (byte : x ≡ level v) (is_next : eqb (choice_of old (at items i)) (level v - 1) ≡ true) (holds : Holds p (choice_of old) s) where
+    next : suc (choice_of old (at spawns i)) ≡ level v
+    next = omega (arith, eqb-true _ _ is_next, ap (choice_of old) here, level_positive v)
+
+    place : at spawns i < length old
+    place = omega (arith, exists, few p)
+
+    pub next_starts : StartsFor p (choice_of (set old (at items i) x)) s
+    next_starts = rw (here, byte) (starts_one old (at spawns i) (level v) place (omega (arith, next)) holds)
+
+    -- and it takes the walk one spawn further
+    pub next_tried : {from : ℕ → ℕ} → Walked (known_program p.known) (level v) i (at spawns) from (choice_of old) → {new t : List ℕ} {r : Bool} → Tried p (choice_of (set old (at items i) x)) s t r → new ≡ cond r (set old (at items i) x) old → Walked (known_program p.known) (level v) (i + 1) (at spawns) from (choice_of new) × Holds p (choice_of new) t × (length new ≡ 512)
+    next_tried {from} w {new} {t} {r} tried taken = (go (rw (here, byte) at tried) (rw (here, byte) at taken), tried_holds old _ tried taken holds, rw taken (lengths r))
       where
-        next : suc (choice_of old (order i)) ≡ k
-        next = omega (arith, ap (choice_of old) e)
+        g : Program
+        g = known_program p.known
 
-        up : (m : ℕ) → (m ≡ order i → ⊥) → choice_of (set old (order i) k) m ≡ choice_of old m
-        up m d = get_or-set_other old (order i) m k 0 d
+        up : List ℕ
+        up = set old (at spawns i) (level v)
 
-        go : Tried p (choice_of (set old (order i) k)) s t r → new ≡ cond r (set old (order i) k) old → Walked (known_program p.known) k (i + 1) order from (choice_of new)
-        go (adopted y safe z) q = rw (q, y) (walked_raised (known_program p.known) k order from i (choice_of old) here w next (choice_of (set old (order i) k)) (get_or-set_same old (order i) k 0 fits) up safe)
-        go (rejected y none z) q = rw (q, y) (walked_kept (known_program p.known) k order from i (choice_of old) here w next (choice_of (set old (order i) k)) (get_or-set_same old (order i) k 0 fits) up none)
+        others : (m : ℕ) → (m ≡ at spawns i → ⊥) → choice_of up m ≡ choice_of old m
+        others m d = get_or-set_other old (at spawns i) m (level v) 0 d
 
-        lengths : (b : Bool) → length (cond b (set old n x) old) ≡ 512
-        lengths true = length-set old n x ∙ long
-        lengths false = long
+        go : Tried p (choice_of up) s t r → new ≡ cond r up old → Walked g (level v) (i + 1) (at spawns) from (choice_of new)
+        go (adopted y safe z) q = rw (q, y) (walked_raised g (level v) (at spawns) from i (choice_of old) exists w next (choice_of up) (get_or-set_same old (at spawns i) (level v) 0 place) others safe)
+        go (rejected y none z) q = rw (q, y) (walked_kept g (level v) (at spawns) from i (choice_of old) exists w next (choice_of up) (get_or-set_same old (at spawns i) (level v) 0 place) others none)
 
--- or to one that does not, and stays
-pub next_past : (g : Program) {count : ℕ} {order : ℕ → ℕ} → InOrder g count order → {from : ℕ → ℕ} (old : List ℕ) (k i : ℕ) {n : ℕ} → n ≡ order i → i < count → 1 ≤ k → (choice_of old n ≡ k - 1 → ⊥) → Walked g k i order from (choice_of old) → Walked g k (i + 1) order from (choice_of old)
-next_past g {count} {order} o {from} old k i e l h d w = walked_past g k order from i (choice_of old) (o.spawns i l).exists w (λ q. d (omega (arith, ap (choice_of old) e)))
+        lengths : (b : Bool) → length (cond b (set old (at items i) x) old) ≡ 512
+        lengths true = length-set old (at items i) x ∙ fits
+        lengths false = fits
 
--- a place of the order, as the code takes it from the spawns alone
-pub placed : (spawns : List ℕ) {count i : ℕ} {items : List ℕ} → items ≡ take count spawns → i < count → at items i ≡ at spawns i
-placed spawns {count} {i} e h = ap (λ (l : List ℕ). at l i) e ∙ get_or-take count spawns i 0 h
+  -- it does not: it stays
+  pub next_past : eqb (choice_of old (at items i)) (level v - 1) ≡ false → {from : ℕ → ℕ} → Walked (known_program p.known) (level v) i (at spawns) from (choice_of old) → Walked (known_program p.known) (level v) (i + 1) (at spawns) from (choice_of old)
+  next_past d {from} w = walked_past (known_program p.known) (level v) (at spawns) from i (choice_of old) exists w (λ q. eqb-false _ _ d (omega (arith, ap (choice_of old) here)))
 
 -- one byte more is raised
 pub raised_more : (k : ℕ) (old new : List ℕ) (i x : ℕ) → i < length old → i < length new → new ≡ map (raised_to k) (take i old) ++ drop i old → x ≡ raised_to k (choice_of new i) → set new i x ≡ map (raised_to k) (take (i + 1) old) ++ drop (i + 1) old
 raised_more k old new i x h l e r = rw r (map_over_more (raised_to k) old new i (choice_of new i) h e (sym (get_or_default_zero new i _ l)))
-
--- ---- whole walks
-
-module _ (g : Program) (count : ℕ) (order : ℕ → ℕ) (o : InOrder g count order) where
-  -- all that wait at once
-  pub walked_at_once : (old : List ℕ) {k : ℕ} {new : List ℕ} → 2 ≤ k → OthersZero g (choice_of old) → g.nodes ≤ length old → new ≡ map (raised_to k) old → Safe g (choice_of new) → Walked g k count order (choice_of old) (choice_of new)
-  walked_at_once old {k} {new} h zero fits e s = walked_all g k count order (choice_of old) (choice_of new) o h zero (λ n l. ap (λ (m : List ℕ). choice_of m n) e ∙ raised_at k old n (omega arith)) s
-
-  pub merged_from : (start : List ℕ) {to : ℕ → ℕ} → Unmerged g (choice_of start) → Walked g guarded count order (choice_of start) to → Merged g count order to
-  merged_from start u w = record { start = choice_of start; unmerged_is = u; walked = w }
 
 -- unmerged everywhere is safe, since it has sizes
 pub unmerged_start : {p : Prepared} {c : ℕ → ℕ} {s : List ℕ} → PreparedFor p → Unmerged (known_program p.known) c → Holds p c s → Safe (known_program p.known) c

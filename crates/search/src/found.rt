@@ -8,9 +8,9 @@ use crate::Work;
 use crate::verdict::Verdict;
 use program::Program;
 
-// The verdicts of nodes and the sizes of the choice that they are, each with room for the largest table, and the work that it took to find
-// them. It is handed out by value, and there is no heap.
-#[derive(Clone, Copy)]
+// The verdicts of nodes, in the bytes that a choice has for them, and the sizes of that choice, each with room for the largest table; and the
+// work that it took to find them. It is handed out by value, and there is no heap.
+#[derive(Drop)]
 pub struct Found {
     pub verdicts: [u8; 512],
     pub sizes: [u32; 2304],
@@ -19,6 +19,7 @@ pub struct Found {
 
 impl Found {
     // Unmerged everywhere, with zeros for its sizes.
+    #[tactic(auto, using(crate::proofs::Starting::started_spawn, crate::proofs::Starting::started_other, crate::proofs::Starting::started_all))]
     pub(crate) fn unmerged(program: &Program<'_>) -> Found
         ensures unmerged { Unmerged (program_of program.now.table.now) (choice_of result.verdicts) }
         ensures zeros { result.sizes ≡ replicate 2304 0 }

@@ -15,6 +15,7 @@ use sizes::find::write;
 use sizes::trials::{Prepared, find_from};
 
 // The verdicts, with this one for each that waits for it.
+#[tactic(auto, using(crate::proofs::Walking::raised_more))]
 fn raised(verdicts: &[u8; 512], verdict: Verdict) -> [u8; 512]
     ensures { result ≡ map (raised_to (level verdict)) verdicts.now }
 {

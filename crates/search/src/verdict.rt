@@ -4,7 +4,7 @@ ghost use Rattle.search.specs.Verdict.{level};
 ghost use Rattle.search.specs.Walk.{raised_to};
 
 // What a choice does with a spawn.
-#[derive(Clone, Copy, Debug, PartialEq, Eq)]
+#[derive(Clone, Copy)]
 pub(crate) enum Verdict {
     Unmerged,
     Guarded,

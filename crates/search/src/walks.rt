@@ -33,6 +33,7 @@ impl Found {
     }
 
     // A walk over the spawns: all at once, if that is safe, and else one by one.
+    #[tactic(auto, using(crate::proofs::Walking::starts_all))]
     pub(crate) fn walk(&mut self, prepared: &Prepared<'_>, order: &Order, verdict: Verdict)
         requires prepared_for { PreparedFor prepared.now }
         requires in_order { InOrder (known_program prepared.now.known) order.now.count (at order.now.spawns) }
@@ -49,6 +50,7 @@ impl Found {
     }
 
     // The first walk, from unmerged everywhere. The sizes of that choice are found only where not all spawns can be merged at once.
+    #[tactic(auto, using(sizes::proofs::Trying::zeros_start))]
     pub(crate) fn merge(&mut self, prepared: &Prepared<'_>, order: &Order)
         requires prepared_for { PreparedFor prepared.now }
         requires in_order { InOrder (known_program prepared.now.known) order.now.count (at order.now.spawns) }

@@ -1,10 +1,6 @@
 use Rattle.std.proofs.Common.{refl, ◌∙◌}
-use Rattle.sizes.proofs.Trying.{zeros_start}
 use Rattle.search.proofs.Walking.{unmerged_start}
 use Rattle.search.proofs.found.Found.merge.Goals as goal
-
-pub all_at_once-requires-clause-starts_for : goal.all_at_once-requires-clause-starts_for
-all_at_once-requires-clause-starts_for c = zeros_start c.requires.zeros
 
 pub one_by_one-requires-clause-safe : goal.one_by_one-requires-clause-safe
 one_by_one-requires-clause-safe c =
