@@ -12,7 +12,7 @@ use names::Call;
 use script::{Line, Run, State};
 use std::alloc::Global;
 use std::io;
-use std::io::{BufWriter, Write};
+use std::io::{BufWriter, Read, Write};
 
 // What a call answers to the run on this table.
 fn show_call<W: Write>(
@@ -61,10 +61,13 @@ fn run_script<W: Write>(out: &mut W, alloc: Global, text: &str) -> io::Result<()
     Ok(())
 }
 
+// How many bytes of a script are read.
+const LONGEST: u64 = 65536;
+
 // Makes the calls of the script on standard input.
 pub fn run_input(rt: &(impl Input + Print + AllocGlobal)) -> io::Result<()> {
     let alloc = rt.alloc();
-    let text = io::read_to_string(alloc, rt.reader())?;
+    let text = io::read_to_string(alloc, rt.reader().take(LONGEST))?;
     let mut out = BufWriter::new(alloc, io::writer(rt))?;
     run_script(&mut out, alloc, text.as_str())?;
     out.flush()

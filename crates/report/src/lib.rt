@@ -1,4 +1,4 @@
-// Answers as text on a writer, in document 01's words. What is printed is tested, not proved.
+// Answers as text on a writer, in document 01's words. What is printed is tested; of the counts and of single numbers and refusals it is proved.
 #![tactic(auto)]
 
 ghost use Rattle.std.specs.Prelude.{◌≡◌, ◌==◌, ◌++◌, if◌then◌else◌, Some, codes, decimal, count_by};
