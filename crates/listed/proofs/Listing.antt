@@ -23,13 +23,14 @@ use Rattle.size.specs.Numbers.{at}
 use Rattle.rules.specs.System.{RuleOf, steps, takes, step_form, total_edge_form, target_form, form_of, start, step_on, end, total_node, total_edge, target_of}
 use Rattle.listed.specs.Listed.{given}
 use Rattle.rules.specs.Numbered.{count_of, on_at, form_at, Means, Gives}
-use Rattle.listed.specs.Listed.{node_kind, node_number, edge_kind, function_kind, places_of, kind_at, number_at, place_at, Progress, done, up_to, blocks, on_in, form_in, rule_of, Says, Placed, Listed, Listing, Lists}
+use Rattle.listed.specs.Listed.{node_kind, node_number, edge_kind, function_kind, places_of, kind_at, number_at, place_at, Progress, done, up_to, blocks, on_in, form_in, Says, Placed, Listed, Listing, Lists}
+use Rattle.solver.specs.Words.{rule_of}
 use Rattle.solver.specs.Words.{Named}
 use Rattle.sync.specs.declared.Known.{Known}
 use Rattle.listed.specs.declared.source.Source.{Source}
 use Rattle.listed.specs.declared.list.Group.{Group}
 use Rattle.listed.specs.declared.list.Group.TheVariants.{Node, Edge, Back, Function}
-use Rattle.rules.specs.declared.kinds.Rule.{Rule}
+use Rattle.solver.specs.declared.rule.Rule.{Rule}
 use Rattle.rules.specs.declared.kinds.Kind.{Kind}
 use Rattle.rules.specs.declared.kinds.Kind.TheVariants.{Target, Start, Step, End, TotalNode, TotalEdge}
 use Rattle.rules.specs.declared.sums.Sum.TheVariants.{After, Before, Through}

@@ -10,12 +10,12 @@ use borrow.Author.Tests.{lt-ltb, le-ltb}
 use Rattle.size.specs.Size.{cap}
 use Rattle.size.specs.Numbers.{at}
 use Rattle.solver.specs.System.{sum_of, gives, Derives, none, rule, Solves}
-use Rattle.solver.specs.Words.{entry_count, head_of, part_of, other_of, base_of, others, word_form, word, start, item_form}
+use Rattle.solver.specs.Words.{entry_count, head_of, part_of, other_of, base_of, size_at, others, word_form, word, start, item_form}
 use Rattle.solver.proofs.Rises.{der_less}
 use Rattle.rules.specs.System.{Entry, size, along, Form, Given, RuleOf, DerOf, forms_of, Solved, Derived}
 use Rattle.rules.specs.Entries.{offset, entry_at}
 use Rattle.rules.specs.Numbered.{other_entries}
-use Rattle.listed.specs.Listed.{size_at, Says, Lists}
+use Rattle.listed.specs.Listed.{Says, Lists}
 use Rattle.rules.specs.declared.sums.Sum.{Sum}
 use Rattle.rules.specs.declared.sums.Sum.TheVariants.{After, Before, Through}
 use Rattle.rules.proofs.Entries.{entry_size, entry_after, entry_before, entry_through, entry_along}

@@ -5,13 +5,12 @@ use Rattle.table.specs.declared.Counts.{Counts}
 use Rattle.program.specs.declared.Program.{Program}
 use Rattle.sync.specs.Words.{member}
 use Rattle.size.specs.Numbers.{at}
-use Rattle.solver.specs.Words.{head_of, part_of, other_of, base_of, Named}
+use Rattle.solver.specs.Words.{head_of, part_of, other_of, base_of, Named, rule_of}
 use Rattle.rules.specs.Choice.{unguarded}
 use Rattle.rules.specs.System.{Form, Given, RuleOf, takes, form_of}
 use Rattle.rules.specs.Numbered.{count_of, on_at, form_at, Means}
 use Rattle.sync.specs.declared.Known.{Known}
 use Rattle.rule_order.specs.declared.Orders.{Orders}
-use Rattle.rules.specs.declared.kinds.Rule.{Rule}
 use Rattle.rules.specs.declared.kinds.Kind.{Kind}
 use Rattle.rules.specs.declared.kinds.Kind.TheVariants.{Target, Start, Step, End, TotalNode, TotalEdge}
 use Rattle.rules.specs.declared.sums.Sum.TheVariants.{After, Before, Through}
@@ -87,13 +86,6 @@ place_at Function lo hi q = lo + q
 -- Whether a choice has the rule that a word says: only the sizes of nodes rest on it.
 unfoldable pub in_force : List ℕ → Program → ℕ → Bool
 in_force choice p w = cond (ltb (head_of w) (4 * p.of.functions)) true (cond (ltb (head_of w) (4 * (p.of.functions + p.of.nodes))) (takes (program_of p.table.now) (at choice) (head_of w / 4 - p.of.functions) (head_of w % 4)) true)
-
--- the rule that a word says; numbers past the sizes stand for no other entry
-abbrev pub size_at : ℕ → Option ℕ
-size_at z = cond (ltb z 2304) (Some z) None
-
-abbrev pub rule_of : ℕ → Rule
-rule_of w = record { head = head_of w; base = base_of w; part = part_of w; other = size_at (other_of w) }
 
 abbrev pub Says : ℕ → Form → Type 0
 Says w f = Means f (rule_of w)

@@ -15,6 +15,7 @@ pub fn list_widest(known: &Known<'_>, rules: &mut [u64]) -> usize
     ensures rules_len_unchanged { (length rules.new ≡ length rules.old) × (result ≤ slots known.now.program.of) }
     ensures widest { Widest known.now (take result rules.new) }
 {
+    // a choice is bytes, also to the crates below
     let every = [3u8; 512];
     list_rules(known, &every, rules)
 }

@@ -1,27 +1,18 @@
 // The rules of a table and a choice, listed as words.
 ghost use Rattle.std.specs.Prelude.{◌≡◌, ℕ, ◌+◌, ◌-◌, ◌*◌, ◌<◌, ◌≤◌, length};
-ghost use Rattle.listed.specs.Listed.{node_kind, node_number, edge_kind, function_kind, places_of, slots, kind_at, number_at, place_at, blocks, on_in, form_in, rule_of, given, Listed, Lengthens, Lists};
+ghost use Rattle.listed.specs.Listed.{node_kind, node_number, edge_kind, function_kind, places_of, slots, kind_at, number_at, place_at, blocks, on_in, form_in, given, Listed, Lengthens, Lists};
 ghost use Rattle.solver.specs.Words.{Named};
 ghost use Rattle.rules.specs.Numbered.{count_of, Gives};
 
 use crate::source::Source;
 use order::sure::get;
 use rule_order::{Item, end_of, order_all};
-use rules::kinds::{Kind, Rule, numbered};
+use rules::kinds::{Kind, numbered};
 use rules::sums::Sum;
+use solver::rule::Rule;
 use std::ops::Range;
 use sync::Known;
 use table::Counts;
-
-// A rule in one word: 12 bits for each entry, of which the other is past the sizes where there is none, and the base above them.
-fn packed(rule: Rule) -> u64
-    requires { (rule.head < 4096) × (rule.part < 4096) × ((z : ℕ) → rule.other ≡ Some z → z < 2304) × (rule.base ≤ 65536) }
-    ensures { rule_of result ≡ rule }
-{
-    let other = rule.other.unwrap_or(4095) as u64;
-    let high = other + 4096 * u64::from(rule.base);
-    (rule.head as u64) + 4096 * ((rule.part as u64) + 4096 * high)
-}
 
 // The rules of a node, those of an edge that run with it, the one that runs against it, and those of a function.
 #[derive(Clone, Copy)]
@@ -39,7 +30,7 @@ pub(crate) struct Slot {
     pub number: usize,
 }
 
-// The eight of a node,
+// The eight of a node. That each place has its rule is a match by number, which a table of rules would say no plainer,
 fn of_node(n: usize, c: usize) -> Slot
     requires { (n < 65536) × (c < 8) }
     ensures { (result.kind ≡ node_kind c) × (result.number ≡ node_number n c) }
@@ -153,7 +144,7 @@ impl Source<'_> {
         let mut end = first;
         for q in 0..hi - lo {
             if let Some(rule) = self.rule_at(group, group.place(lo, hi, q)) {
-                rules[end] = packed(rule);
+                rules[end] = rule.packed();
                 end += 1;
             }
         }

@@ -31,7 +31,8 @@ fn leads_down(program: &Program<'_>, depth: &[Option<u32>; 64], level: u32, n: u
         && depth[program.target(n)].is_none()
 }
 
-// Gives the next level to the functions that this one leads to, and says whether there was one.
+// Gives the next level to the functions that this one leads to, and says whether there was one. A flag beside what is written, since the
+// caller asks of it no more than whether to go on.
 fn deepen(program: &Program<'_>, depth: &mut [Option<u32>; 64], level: u32) -> bool
     requires few { level ≤ 64 }
     requires levels { Levels (program_of program.now.table.now) level (found_in depth.old) }

@@ -6,7 +6,7 @@ use crate::Program;
 use table::record;
 
 impl Program<'_> {
-    // Whether function f is an entry.
+    // Whether function f is an entry: its sort is a flag, 1 or 0.
     pub fn is_entry(&self, f: usize) -> bool
         requires { f < self.now.of.functions }
         ensures { result ≡ (program_of self.now.table.now).entry f }

@@ -20,7 +20,7 @@ use Rattle.solver.specs.Words.{entry_count}
 use Rattle.rules.specs.Numbered.{Means, Gives}
 use Rattle.rules.specs.declared.sums.Sum.{Sum}
 use Rattle.rules.specs.declared.sums.Sum.TheVariants.{After, Before, Through}
-use Rattle.rules.specs.declared.kinds.Rule.{Rule}
+use Rattle.solver.specs.declared.rule.Rule.{Rule}
 use Rattle.rules.proofs.Entries.{entry_size, entry_along}
 
 -- entry e is number x

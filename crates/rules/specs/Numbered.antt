@@ -10,7 +10,7 @@ use Rattle.solver.specs.Words.{size_count, entry_count}
 use Rattle.rules.specs.System.{Entry, size, Form, starts, steps, ends, takes, start_form, step_form, end_form, total_node_form, total_edge_form, target_form}
 use Rattle.rules.specs.Entries.{entry_at}
 use Rattle.sync.specs.declared.Known.{Known}
-use Rattle.rules.specs.declared.kinds.Rule.{Rule}
+use Rattle.solver.specs.declared.rule.Rule.{Rule}
 use Rattle.rules.specs.declared.kinds.Kind.{Kind}
 use Rattle.rules.specs.declared.kinds.Kind.TheVariants.{Target, Start, Step, End, TotalNode, TotalEdge}
 

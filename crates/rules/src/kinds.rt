@@ -11,6 +11,7 @@ ghost use Rattle.rules.specs.Numbered.{count_of, on_at, form_at, Gives, Means};
 use crate::sums::{Sum, frame_size};
 use crate::targets::{kind_taken, rests_on_target};
 use program::Program;
+use solver::rule::Rule;
 use sync::Known;
 
 // Which rules: of the sizes of nodes that rest on a target; of a sum of nodes, where it starts, along the edges, and where it is done;
@@ -23,15 +24,6 @@ pub enum Kind {
     End(Sum),
     TotalNode,
     TotalEdge,
-}
-
-// What a rule says; `other` is a size.
-#[derive(Clone, Copy)]
-pub struct Rule {
-    pub head: usize,
-    pub base: u32,
-    pub part: usize,
-    pub other: Option<usize>,
 }
 
 // Size k of node n, as number 4 n + k: a call's rests on the same size of its target, a merged spawn's on Total.

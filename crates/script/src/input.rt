@@ -5,7 +5,8 @@ ghost use Rattle.std.specs.Io.KnownBytes.{Consumes, IsAtEnd};
 use std::io;
 use std::io::Read;
 
-// Reads until the buffer is full or the input ends, and gives the bytes that were read. An input may come in pieces.
+// Reads until the buffer is full or the input ends, and gives the bytes that were read. An input may come in pieces, so the loop goes on by
+// what a read gave, and a `for` says it no plainer.
 pub fn read_full<'a, R: Read>(input: &mut R, buffer: &'a mut [u8]) -> io::Result<&'a [u8]>
     ensures within { IfOk result (λ bytes. length bytes.now ≤ length buffer.old) }
     ensures read { IfOk result (λ bytes. Consumes (R.remaining input.old) (R.remaining input.new) bytes.now) }

@@ -2,7 +2,6 @@
 // in: that of a search in depth from the functions' first nodes, and then from the others. An edge stands before those that
 // were found beyond it: where no path comes back to its start, before all of them, so one sweep settles.
 // The search is a hint: nothing is promised of it, so no place needs a bound. What it writes is made sure of.
-ghost use Rattle.std.specs.Prelude.{◌≡◌, ◌≤◌, length};
 ghost use Rattle.order.specs.Order.{Ordered};
 
 use order::sure::{get, make_sure, put};
@@ -44,80 +43,81 @@ fn link_edges(program: &Program<'_>) -> Links {
     links
 }
 
-// Goes from a node along edges that are left, and puts those on the way at the order's start; gives how many there are.
-fn descend(
-    program: &Program<'_>,
-    links: &mut Links,
-    from: usize,
-    way: usize,
-    order: &mut [u16],
-) -> usize {
-    let mut n = from;
-    for depth in way..program.of.edges {
-        let Some(e) = links.take(n) else {
-            return depth;
-        };
-        if program.of.edges <= e {
-            return depth;
-        }
-        put(order, depth, e);
-        n = program.edge_to(e);
-    }
-    program.of.edges
-}
-
-// Puts the last edge on the way at its place, and goes on from where it comes from; gives how many are on the way then.
-fn retreat(
-    program: &Program<'_>,
-    links: &mut Links,
-    way: usize,
+// A search as far as it has come: the edges that are left, those on the way at the order's start, and those that have their place at its
+// end, from `place` on. The edges on the way have no place yet, so there is room for them below it.
+#[derive(Drop)]
+struct Search<'a> {
+    program: &'a Program<'a>,
+    links: Links,
+    order: [u16; 1024],
+    depth: usize,
     place: usize,
-    order: &mut [u16],
-) -> usize {
-    let e = get(order, way);
-    put(order, place, e);
-    if program.of.edges <= e {
-        return way;
-    }
-    descend(program, links, program.edge_from(e), way, order)
 }
 
-// Searches from node n: an edge goes to its place on the way back, below those that were found beyond it. Gives the lowest
-// place taken. The edges on the way have none yet, so there is room for them below it.
-fn search(
-    program: &Program<'_>,
-    links: &mut Links,
-    n: usize,
-    end: usize,
-    order: &mut [u16],
-) -> usize {
-    let mut depth = descend(program, links, n, 0, order);
-    for place in (0..end).rev() {
-        if depth == 0 {
-            return place + 1;
+impl Search<'_> {
+    // Goes from a node along edges that are left, and puts them on the way.
+    fn descend(&mut self, from: usize) {
+        let program = self.program;
+        let mut n = from;
+        for depth in self.depth..program.of.edges {
+            let Some(e) = self.links.take(n) else {
+                return;
+            };
+            if program.of.edges <= e {
+                return;
+            }
+            put(&mut self.order, depth, e);
+            self.depth = depth + 1;
+            n = program.edge_to(e);
         }
-        depth = retreat(program, links, depth - 1, place, order);
     }
-    0
+
+    // Puts the last edge on the way at its place, and goes on from where it comes from.
+    fn retreat(&mut self) {
+        self.depth = self.depth.saturating_sub(1);
+        self.place = self.place.saturating_sub(1);
+        let e = get(&self.order, self.depth);
+        put(&mut self.order, self.place, e);
+        let program = self.program;
+        if e < program.of.edges {
+            self.descend(program.edge_from(e));
+        }
+    }
+
+    // Searches from node n: an edge goes to its place on the way back, below those that were found beyond it.
+    fn from(&mut self, n: usize) {
+        self.descend(n);
+        for _ in 0..self.place {
+            if self.depth == 0 {
+                return;
+            }
+            self.retreat();
+        }
+    }
 }
 
 // Searches from everywhere, from the functions' first nodes and then from every node, and leaves no edge out.
-fn search_all(program: &Program<'_>, order: &mut [u16]) {
-    let mut links = link_edges(program);
-    let mut place = program.of.edges;
+fn search_all(program: &Program<'_>) -> [u16; 1024] {
+    let mut search = Search {
+        program: &*program,
+        links: link_edges(program),
+        order: [0; 1024],
+        depth: 0,
+        place: program.of.edges,
+    };
     let starts = (0..program.of.functions).map(|f| program.first(f));
     for n in starts.chain(0..program.of.nodes) {
-        place = search(program, &mut links, n, place, order);
+        search.from(n);
     }
+    search.order
 }
 
-// Writes the order that the search gives, made sure of.
+// The order that the search gives, made sure of.
 #[tactic(auto, using(order::proofs::Orders::front_ordered))]
-pub fn order_edges(program: &Program<'_>, order: &mut [u16])
-    requires { program.now.of.edges ≤ length order.old }
-    ensures order_len_unchanged { length order.new ≡ length order.old }
-    ensures ordered { Ordered program.now.of.edges order.new }
+pub fn order_edges(program: &Program<'_>) -> [u16; 1024]
+    ensures { Ordered program.now.of.edges result }
 {
-    search_all(program, order);
+    let mut order = search_all(program);
     make_sure(&mut order[..program.of.edges]);
+    order
 }

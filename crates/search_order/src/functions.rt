@@ -1,6 +1,6 @@
 // An order of a table's functions in which each stands after those that it calls and spawns, where it can be.
 // The search is a hint: nothing is promised of it. What it writes is made sure of.
-ghost use Rattle.std.specs.Prelude.{◌≡◌, ◌<◌, ◌≤◌, length};
+ghost use Rattle.std.specs.Prelude.{◌<◌};
 ghost use Rattle.order.specs.Order.{Ordered};
 
 use order::sure::{make_sure, put};
@@ -49,25 +49,26 @@ fn next_function(functions: usize, targets: &[u64], left: u64) -> Option<usize> 
 }
 
 // Takes functions until none is left.
-fn search_all(program: &Program<'_>, order: &mut [u16]) {
+fn search_all(program: &Program<'_>) -> [u16; 64] {
+    let mut order = [0; 64];
     let mut targets = [0u64; 64];
     find_targets(program, &mut targets);
     let mut left = u64::MAX;
     for q in 0..program.of.functions {
         if let Some(f) = next_function(program.of.functions, &targets, left) {
-            put(order, q, f);
+            put(&mut order, q, f);
             left &= !bit(f);
         }
     }
+    order
 }
 
-// Writes the order that the search gives, made sure of.
+// The order that the search gives, made sure of.
 #[tactic(auto, using(order::proofs::Orders::front_ordered))]
-pub fn order_functions(program: &Program<'_>, order: &mut [u16])
-    requires { program.now.of.functions ≤ length order.old }
-    ensures order_len_unchanged { length order.new ≡ length order.old }
-    ensures ordered { Ordered program.now.of.functions order.new }
+pub fn order_functions(program: &Program<'_>) -> [u16; 64]
+    ensures { Ordered program.now.of.functions result }
 {
-    search_all(program, order);
+    let mut order = search_all(program);
     make_sure(&mut order[..program.of.functions]);
+    order
 }

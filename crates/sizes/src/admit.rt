@@ -9,7 +9,7 @@ use rules::targets::chosen;
 use sync::{Known, synchronising};
 use table::refusal::{Cause, Refused};
 
-// Whether the byte of node n is outside its list: 1 to 3 of a spawn, and 0 of any other node.
+// Whether the byte of node n is outside its list: 1 to 3 of a spawn, and 0 of any other node. A choice is handed in as bytes, of any value.
 #[tactic(auto, unfolding(crate::specs::Call::outside))]
 fn is_outside(program: &Program<'_>, choice: &[u8], n: usize) -> bool
     requires { n < program.now.of.nodes }

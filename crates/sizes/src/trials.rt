@@ -10,14 +10,14 @@ use solver::solution::Solution;
 use sync::Known;
 use table::Counts;
 
-// A table that is prepared for trials: what is known of it, and the rules of its widest choice, which are for this crate alone.
+// A table that is prepared for trials: what is known of it, and the rules of its widest choice, into which the crates above don't look.
 #[derive(Clone, Copy)]
 pub struct Prepared<'a> {
     pub known: Known<'a>,
     pub words: &'a [u64],
 }
 
-// How many words it takes to prepare a table.
+// How many words it takes to prepare a table, for the crates above, which don't see `listed`.
 pub fn room(of: Counts) -> usize
     requires { room_for of ≤ 8384 }
     ensures { result ≡ room_for of }
@@ -25,7 +25,7 @@ pub fn room(of: Counts) -> usize
     list::room(of)
 }
 
-// Prepares a table for trials: of the words written the first ones count, as many as it says.
+// Prepares a table for trials: writes the rules of its widest choice, and gives how many words they take.
 pub fn prepare(known: &Known<'_>, words: &mut [u64]) -> usize
     requires { Looked known.now × (room_for known.now.program.of ≤ length words.old) }
     ensures few { (length words.new ≡ length words.old) × (result ≤ length words.new) }

@@ -1,7 +1,8 @@
 -- Rules as words in a list, as the code keeps them. Entries are numbers: 2,304 sizes, and three sums for each of 512 nodes.
-use Rattle.std.specs.Prelude.{ℕ, ◌/◌, ◌%◌, ◌<◌, cond, List, [], ◌∷◌, ltb}
+use Rattle.std.specs.Prelude.{ℕ, ◌/◌, ◌%◌, ◌<◌, cond, List, [], ◌∷◌, ltb, Option, None, Some}
 use Rattle.size.specs.Numbers.{at}
 use Rattle.solver.specs.System.{Form}
+use Rattle.solver.specs.declared.rule.Rule.{Rule}
 
 abbrev pub size_count : ℕ
 size_count = 2304
@@ -25,6 +26,13 @@ base_of w = w / 68719476736
 -- the other entry of a rule's body, if there is one: a size
 abbrev pub others : ℕ → List ℕ
 others z = cond (ltb z 2304) (z ∷ []) []
+
+-- the rule that a word says; numbers past the sizes stand for no other entry
+abbrev pub size_at : ℕ → Option ℕ
+size_at z = cond (ltb z 2304) (Some z) None
+
+abbrev pub rule_of : ℕ → Rule
+rule_of w = record { head = head_of w; base = base_of w; part = part_of w; other = size_at (other_of w) }
 
 -- what a word says
 abbrev pub word_form : ℕ → Form ℕ

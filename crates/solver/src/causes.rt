@@ -7,7 +7,7 @@ ghost use Rattle.solver.specs.Rounds.{cause_at};
 
 use size::Size;
 
-// No cause: it is past the last entry.
+// No cause: it is past the last entry. In fixed memory options would take twice the room, all of it cleared for each choice.
 const NONE: u16 = 65535;
 
 // The cause of each entry, and a stamp of when it rose last. The clock counts the rises; its last time stands for all later ones, so that

@@ -3,6 +3,6 @@
 #![tactic(auto)]
 
 mod causes;
-mod rule;
+pub mod rule;
 pub mod solution;
 mod turns;

@@ -40,8 +40,7 @@ pub(crate) fn settle(program: Program<'_>) -> Known<'_>
     ensures same_program { result.program ≡ program.entry }
     ensures looked { Looked result }
 {
-    let mut order = [0u16; 1024];
-    order_edges(&program, &mut order);
+    let order = order_edges(&program);
     let from = firsts(&program);
     let mut synchronising = syncs(&program);
     let mut reached = reach(&program, &order, synchronising, from);

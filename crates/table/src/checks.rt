@@ -14,7 +14,7 @@ fn has_target(s: u8) -> bool
     (s == 1) | (s == 2)
 }
 
-// 2: a kind or sort that is not listed, or a field that must be 0 and isn't.
+// 2: a kind or sort that is not listed, or a field that must be 0 and isn't. Sorts stay numbers here: each kind lists others.
 #[tactic(auto, unfolding(crate::specs::Checks::unlisted))]
 pub(crate) fn is_unlisted(t: &[u8], r: usize) -> bool
     ensures { result ≡ unlisted t.now r }
