@@ -1,8 +1,8 @@
 // A size: "either a number of bytes up to 65,535 or unbounded".
 #![tactic(auto)]
 
-ghost use Rattle.std.specs.Prelude.{◌≡◌, ◌+◌, max};
-ghost use Rattle.size.specs.Size.{size_of, value_of};
+ghost use Rattle.std.specs.Prelude.{◌≡◌, ◌+◌, eqb, max};
+ghost use Rattle.size.specs.Size.{size_of, value_of, unbounded};
 
 #[derive(Clone, Copy)]
 pub enum Size {
@@ -45,6 +45,18 @@ impl Size {
             (Size::Bytes(a), Size::Bytes(b)) => Size::from_frame(a.max(b)),
             _ => Size::Unbounded,
         }
+    }
+
+    pub fn is_zero(self) -> bool
+        ensures { result ≡ eqb (value_of self) 0 }
+    {
+        u32::from(self) == 0
+    }
+
+    pub fn is_unbounded(self) -> bool
+        ensures { result ≡ eqb (value_of self) unbounded }
+    {
+        u32::from(self) == 65536
     }
 }
 
