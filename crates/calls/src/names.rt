@@ -1,7 +1,6 @@
 // The names of the calls in a script.
 use std::error::Error;
 use std::fmt;
-use std::str::FromStr;
 
 // The calls of document 01, and the two that count their work.
 #[derive(Clone, Copy, Debug)]
@@ -27,18 +26,18 @@ impl fmt::Display for NoSuchCall {
 
 impl Error for NoSuchCall {}
 
-impl FromStr for Call {
-    type Err = NoSuchCall;
+impl TryFrom<&[u8]> for Call {
+    type Error = NoSuchCall;
 
-    fn from_str(name: &str) -> Result<Call, NoSuchCall> {
+    fn try_from(name: &[u8]) -> Result<Call, NoSuchCall> {
         match name {
-            "table" => Ok(Call::Table),
-            "sync" => Ok(Call::Sync),
-            "sizes" => Ok(Call::Sizes),
-            "safety" => Ok(Call::Safety),
-            "best" => Ok(Call::Best),
-            "passes" => Ok(Call::Passes),
-            "trials" => Ok(Call::Trials),
+            b"table" => Ok(Call::Table),
+            b"sync" => Ok(Call::Sync),
+            b"sizes" => Ok(Call::Sizes),
+            b"safety" => Ok(Call::Safety),
+            b"best" => Ok(Call::Best),
+            b"passes" => Ok(Call::Passes),
+            b"trials" => Ok(Call::Trials),
             _ => Err(NoSuchCall),
         }
     }

@@ -6,7 +6,7 @@ ghost use Rattle.rules.specs.Numbered.{count_of, Gives};
 
 use crate::source::Source;
 use order::sure::get;
-use rule_order::{Item, end_of, order_all};
+use rule_order::{Item, Items, order_all};
 use rules::kinds::{Kind, numbered};
 use rules::sums::Sum;
 use solver::rule::Rule;
@@ -183,15 +183,23 @@ impl Source<'_> {
         let program = &self.known.program;
         let of = program.of;
         let functions = &self.orders.functions[..];
-        let nodes = &self.orders.nodes[..];
-        let edges = &self.orders.edges[..];
+        let nodes = &self.orders.nodes[..of.nodes];
+        let edges = &self.orders.edges[..of.edges];
+        let node = Items {
+            program,
+            item: Item::Node,
+        };
+        let edge = Items {
+            program,
+            item: Item::Edge,
+        };
         let mut count = 0;
         let mut a = 0;
         let mut b = 0;
         for f in 0..of.functions {
             let left = &functions[f..of.functions];
-            let c = end_of(program, Item::Node, &nodes[..of.nodes], a, left);
-            let d = end_of(program, Item::Edge, &edges[..of.edges], b, left);
+            let c = node.end_of(nodes, a, left);
+            let d = edge.end_of(edges, b, left);
             count = self.list_block(a..c, b..d, f, count, rules);
             a = c;
             b = d;

@@ -1,6 +1,5 @@
 -- What a line of a script says.
-use Rattle.std.specs.Prelude.{ℕ, ◌≡◌, ◌≢◌, List, ◌∷◌, slice_index_or}
-use Rattle.std.specs.Str.{trim}
+use Rattle.std.specs.Prelude.{ℕ, ◌≡◌, ◌≢◌, List, ◌∷◌, drop, slice_index_or}
 use Rattle.script.specs.declared.Line.{Line}
 use Rattle.script.specs.declared.Line.TheVariants.{Comment, Call, Table, Bytes, Records, Run}
 
@@ -11,9 +10,9 @@ Begins mark text = (rest : List ℕ) × (text ≡ mark ∷ rest)
 abbrev pub BeginsOther : ℕ → List ℕ → Type 0
 BeginsOther mark text = (rest : List ℕ) → text ≢ mark ∷ rest
 
--- Such a mark, and this name behind it.
+-- Such a mark, and this name behind it and a space.
 abbrev pub Names : ℕ → List ℕ → List ℕ → Type 0
-Names mark text name = (rest : List ℕ) × (text ≡ mark ∷ rest) × (name ≡ trim rest)
+Names mark text name = (rest : List ℕ) × (text ≡ mark ∷ rest) × (name ≡ drop 1 rest)
 
 -- What a line reads as: `#`, `!`, `=`, `+` and `?` are 35, 33, 61, 43 and 63.
 abbrev pub ReadsAs : List ℕ → Line → Type 0

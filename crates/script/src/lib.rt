@@ -8,8 +8,8 @@
 //     2 0 0 0 0 512       512 plain nodes of function 0
 //     3 0 0 1 0 4 1 1     the edges 0-1, 1-2, 2-3, 3-4
 //
-// `+ N` adds N bytes of 0, and a line that begins with `#` says nothing. Numbers count modulo 65,536, and one that is
-// missing, or is no number, is 0.
+// `+ N` adds N bytes of 0, and a line that begins with `#` says nothing. Numbers count modulo 65,536, each byte that is no
+// digit ends one, and one that is missing is 0. A table has at most 65,536 bytes, and what goes past them is left out.
 //
 // `? LENGTH BUFFER B0 B1 ..` is a run on the table: with a choice of LENGTH bytes, 0 where none is given, and a sizes
 // buffer of BUFFER numbers. Such as
@@ -21,108 +21,123 @@ mod input;
 mod numbers;
 mod records;
 
-ghost use Rattle.std.specs.Prelude.{◌≡◌, [], IfOk, OnOk};
+ghost use Rattle.std.specs.Prelude.{◌≡◌, ◌-◌, [], ◌++◌, min, length, replicate};
 ghost use Rattle.script.specs.Line.{ReadsAs};
 ghost use Rattle.script.specs.State.{Takes};
 
+use arrayvec::ArrayVec;
 pub use input::read_full;
 use numbers::Numbers;
 use records::Records;
-use std::alloc::{AllocError, Global};
+
+// The bytes of a table, in fixed memory.
+pub type Table = ArrayVec<u8, 65536>;
 
 // What a line of a script says.
-#[derive(Debug, Drop)]
+#[derive(Clone, Copy, Debug)]
 pub enum Line<'a> {
     Comment,
     // The runs that follow are of this call.
-    Call(&'a str),
+    Call(&'a [u8]),
     // A table of this name begins.
-    Table(&'a str),
+    Table(&'a [u8]),
     // The table goes on with so many bytes.
     Bytes(u16),
     Records(Records),
-    Run(Run),
+    Run(Run<'a>),
 }
 
-// A run on the table: with this choice, and a sizes buffer of so many numbers.
-#[derive(Debug, Drop)]
-pub struct Run {
-    pub choice: Vec<u8>,
-    pub buffer: usize,
+// A run on the table: with a choice of so many bytes, which these numbers say, and a sizes buffer of so many numbers.
+#[derive(Clone, Copy, Debug)]
+pub struct Run<'a> {
+    pub length: u16,
+    pub buffer: u16,
+    bytes: Numbers<'a>,
 }
 
-impl Run {
-    fn read(alloc: Global, text: &str) -> Result<Run, AllocError> {
-        let mut numbers = Numbers::of(text);
-        let length = numbers.number();
-        let buffer = usize::from(numbers.number());
-        let choice = (0..length).map(|_| numbers.byte()).collect(alloc)?;
-        Ok(Run { choice, buffer })
+impl<'a> Run<'a> {
+    fn read(text: &'a [u8]) -> Run<'a> {
+        let mut numbers = Numbers::behind_mark(text);
+        Run {
+            length: numbers.number(),
+            buffer: numbers.number(),
+            bytes: numbers,
+        }
+    }
+
+    // Its choice.
+    pub fn choice(&self) -> ArrayVec<u8, 65536> {
+        let mut choice = ArrayVec::new();
+        let mut bytes = self.bytes;
+        for _ in 0..self.length {
+            choice.push(bytes.byte());
+        }
+        choice
     }
 }
 
 impl<'a> Line<'a> {
     // What this line says, without its line feed.
-    pub fn read(alloc: Global, text: &'a str) -> Result<Line<'a>, AllocError>
-        ensures { IfOk result (ReadsAs text.now) }
+    pub fn read(text: &'a [u8]) -> Line<'a>
+        ensures { ReadsAs text.now result }
     {
-        if text.is_empty() || text.starts_with('#') {
-            return Ok(Line::Comment);
+        let Some((mark, behind)) = text.split_first() else {
+            return Line::Comment;
+        };
+        let words = behind.get(1..).unwrap_or(&[]);
+        match *mark {
+            b'#' => Line::Comment,
+            b'!' => Line::Call(words),
+            b'=' => Line::Table(words),
+            b'+' => Line::Bytes(Numbers::behind_mark(text).number()),
+            b'?' => Line::Run(Run::read(text)),
+            _ => Line::Records(Records::of(text)),
         }
-        if let Some(call) = text.strip_prefix('!') {
-            return Ok(Line::Call(call.trim()));
+    }
+}
+
+// Puts so many bytes of 0 behind those of a table, as many as there is room for.
+fn put_zeros(table: &mut Table, count: u16)
+    ensures { table.new.items ≡ table.old.items ++ replicate (min count (65536 - length table.old.items)) 0 }
+{
+    for _ in 0..count {
+        if table.try_push(0).is_err() {
+            return;
         }
-        if let Some(name) = text.strip_prefix('=') {
-            return Ok(Line::Table(name.trim()));
-        }
-        if let Some(count) = text.strip_prefix('+') {
-            return Ok(Line::Bytes(Numbers::of(count).number()));
-        }
-        if let Some(run) = text.strip_prefix('?') {
-            return Ok(Line::Run(Run::read(alloc, run)?));
-        }
-        Ok(Line::Records(Records::of(text)))
     }
 }
 
 // What the lines up to some place of a script have said: the call of the runs, and the table with its name.
 #[derive(Debug, Drop)]
 pub struct State<'a> {
-    pub call: &'a str,
-    pub name: &'a str,
-    pub table: Vec<u8>,
+    pub call: &'a [u8],
+    pub name: &'a [u8],
+    pub table: Table,
 }
 
 impl<'a> State<'a> {
     // What stands before the first line.
-    pub fn new(alloc: Global) -> State<'a>
+    pub fn new() -> State<'a>
         ensures { result.table.items ≡ [] }
     {
         State {
-            call: "",
-            name: "",
-            table: Vec::new(alloc),
+            call: &[],
+            name: &[],
+            table: ArrayVec::new(),
         }
     }
 
-    pub fn take(&mut self, line: &Line<'a>) -> Result<(), AllocError>
-        ensures { OnOk result (Takes self.old line.now self.new) }
+    pub fn take(&mut self, line: &Line<'a>)
+        ensures { Takes self.old line.now self.new }
     {
         match line {
-            Line::Comment | Line::Run(_) => Ok(()),
-            Line::Call(call) => {
-                self.call = call;
-                Ok(())
-            }
+            Line::Comment | Line::Run(_) => {}
+            Line::Call(call) => self.call = call,
             Line::Table(name) => {
                 self.name = name;
                 self.table.clear();
-                Ok(())
             }
-            Line::Bytes(count) => {
-                let length = self.table.len() + usize::from(*count);
-                self.table.resize(length, 0)
-            }
+            Line::Bytes(count) => put_zeros(&mut self.table, *count),
             Line::Records(records) => records.put(&mut self.table),
         }
     }
@@ -135,22 +150,22 @@ mod tests {
 
     #[test]
     fn lines_make_a_table(rt: HostRuntime) -> Result<(), Fail> {
-        let mut state = State::new(rt.alloc());
-        for text in [
-            "! best",
-            "= old",
-            "+ 3",
-            "= new",
-            "# all",
-            "1 1 0 4 40",
-            "3 0 0 1 0 2 1 1",
-            "+ 1",
-        ] {
-            let line = Line::read(rt.alloc(), text)?;
-            state.take(&line)?;
+        let mut state = State::new();
+        let lines: [&[u8]; 8] = [
+            b"! best",
+            b"= old",
+            b"+ 3",
+            b"= new",
+            b"# all",
+            b"1 1 0 4 40",
+            b"3 0 0 1 0 2 1 1",
+            b"+ 1",
+        ];
+        for text in lines {
+            state.take(&Line::read(text));
         }
-        assert_eq!(rt; state.call, "best");
-        assert_eq!(rt; state.name, "new");
+        assert_eq!(rt; state.call, b"best".as_slice());
+        assert_eq!(rt; state.name, b"new".as_slice());
         let want = [
             1, 1, 0, 0, 4, 0, 40, 0, 3, 0, 0, 0, 1, 0, 0, 0, 3, 0, 1, 0, 2, 0, 0, 0, 0,
         ];
@@ -160,10 +175,10 @@ mod tests {
 
     #[test]
     fn bytes_that_are_not_given_are_0(rt: HostRuntime) -> Result<(), Fail> {
-        let line = Line::read(rt.alloc(), "? 7 40 0 3 0 3")?;
+        let line = Line::read(b"? 7 40 0 3 0 3");
         assert!(rt; matches!(line, Line::Run(_)));
         if let Line::Run(run) = line {
-            assert_eq!(rt; run.choice.as_slice(), [0, 3, 0, 3, 0, 0, 0].as_slice());
+            assert_eq!(rt; run.choice().as_slice(), [0, 3, 0, 3, 0, 0, 0].as_slice());
             assert_eq!(rt; run.buffer, 40);
         }
         Ok(())

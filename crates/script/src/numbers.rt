@@ -1,29 +1,43 @@
 // The numbers of a line.
-use std::str::SplitWhitespace;
 
-// The words of a line, read as numbers one after another.
-#[derive(Drop)]
+// A line's bytes from which numbers are read, one after another: each byte that is no digit ends one.
+#[derive(Clone, Copy, Debug)]
 pub struct Numbers<'a> {
-    words: SplitWhitespace<'a>,
+    rest: &'a [u8],
 }
 
 impl<'a> Numbers<'a> {
-    pub fn of(text: &'a str) -> Numbers<'a> {
-        Numbers {
-            words: text.split_whitespace(),
-        }
+    pub fn of(text: &'a [u8]) -> Numbers<'a> {
+        Numbers { rest: text }
+    }
+
+    // Those behind a mark and a space, which end one each.
+    pub fn behind_mark(text: &'a [u8]) -> Numbers<'a> {
+        let mut numbers = Numbers::of(text);
+        numbers.number();
+        numbers.number();
+        numbers
     }
 
     // The next number, modulo 65,536: 0 where there is none.
     pub fn number(&mut self) -> u16 {
-        let word = self.words.next().unwrap_or("0");
-        let number: u64 = word.parse().unwrap_or(0);
-        (number % 65536) as u16
+        let rest = self.rest;
+        let is_end = |byte: &u8| !byte.is_ascii_digit();
+        let (digits, behind) = match rest.iter().position(is_end) {
+            Some(end) => (&rest[..end], &rest[end + 1..]),
+            None => (rest, &rest[rest.len()..]),
+        };
+        self.rest = behind;
+        digits.iter().fold(0, |number: u16, digit| {
+            let unit = u16::from(digit.wrapping_sub(b'0'));
+            number.wrapping_mul(10).wrapping_add(unit)
+        })
     }
 
     // The next number, modulo 256.
     pub fn byte(&mut self) -> u8 {
-        (self.number() % 256) as u8
+        let [low, _] = self.number().to_le_bytes();
+        low
     }
 
     // Whether the next number is given and not 0.
