@@ -13,7 +13,7 @@ pub fn get(a: &[u16], i: usize) -> usize
 pub fn put(a: &mut [u16], i: usize, x: usize)
     ensures { a.new ≡ set a.old i (x % 65536) }
 {
-    // Not by `get_mut`, after which a proof knows no element.
+    // Not by `get_mut`, after which a proof knows no element. The cast loses nothing after `%`, where a conversion would ask what to do if it did.
     if i < a.len() {
         a[i] = (x % 65536) as u16;
     }
@@ -43,7 +43,7 @@ fn is_order(order: &[u16], places: &[u16]) -> bool
     (0..order.len()).all(|e| is_placed(order, places, e))
 }
 
-// Writes 0, 1, 2, ..
+// Writes 0, 1, 2, .., each of which is below 65,536, so that the cast loses nothing.
 #[tactic(auto, using(crate::proofs::Orders::own_place))]
 fn number(order: &mut [u16])
     requires { length order.old ≤ 65536 }

@@ -1,5 +1,6 @@
 // The rules of the finite system by kind and number, each as numbers: entry `head` is at least `base`, the entry `part` and the entry
-// `other`. An entry is a size, by its place in the written order, or a sum of a node, by `Sum::number`.
+// `other`. An entry is a size, by its place in the written order, or a sum of a node, by `Sum::number`. Which of the four sizes of a function or
+// a node is meant is a number too, 0 to 3: it is counted with, and an enum would be turned into that number at each place.
 ghost use Rattle.std.specs.Prelude.{◌*◌, ◌<◌, ◌/◌, ◌%◌};
 ghost use Rattle.table.specs.Record.{edge_from, edge_to};
 ghost use Rattle.table.specs.Program.{program_of};

@@ -6,7 +6,8 @@ ghost use Rattle.rules.specs.System.{takes, taken};
 
 use program::Program;
 
-// The byte of node n in a choice, and 0 past its end.
+// The byte of node n in a choice, and 0 past its end. A choice is bytes, also of values that no verdict has: a larger byte has all rules of a
+// smaller one, which is how the rules are stated.
 pub fn chosen(choice: &[u8], n: usize) -> u8
     ensures { result ≡ at choice.now n }
 {

@@ -65,8 +65,10 @@ impl<'a> Run<'a> {
         }
     }
 
-    // Its choice.
-    pub fn choice(&self) -> ArrayVec<u8, 65536> {
+    // Its choice: 0 where no byte is given.
+    pub fn choice(&self) -> ArrayVec<u8, 65536>
+        ensures { length result.items ≡ self.now.length }
+    {
         let mut choice = ArrayVec::new();
         let mut bytes = self.bytes;
         for _ in 0..self.length {
