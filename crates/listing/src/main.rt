@@ -3,10 +3,11 @@
 
 use script::read_full;
 use std::io;
+use text::LONGEST;
 
 fn main(rt: HostRuntime) -> io::Result<()> {
     // one byte more than the longest table, so that a longer input is seen to be one
-    let mut buffer = [0u8; 12801];
+    let mut buffer = [0u8; LONGEST + 1];
     let bytes = read_full(&mut rt.stdin(), &mut buffer)?;
     let made = text::listing(bytes);
     rt.write_all(made.as_bytes())

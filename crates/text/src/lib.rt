@@ -16,13 +16,16 @@ use program::Program;
 use table::refusal::Refused;
 pub use text::Text;
 
+// How many bytes the longest table has.
+pub const LONGEST: usize = 12800;
+
 // Writes the listing of an accepted table. Of another nothing is written, and the refusal is given.
 fn put_best(text: &mut Text, t: &[u8]) -> Result<(), Refused>
-    requires empty { text.old ≡ [] }
-    requires short { length t.now ≤ 12800 }
-    ensures ok { OnOk result (ListingOf t.now text.new) }
+    requires empty { text.old.0.bytes ≡ [] }
+    requires short { length t.now ≤ LONGEST }
+    ensures ok { OnOk result (ListingOf t.now text.new.0.bytes) }
     ensures err { IfErr result (λ r. outcome t.now ≡ refused (number_of r.cause) r.place) }
-    ensures same { OnErr result (text.new ≡ []) }
+    ensures same { OnErr result (text.new.0.bytes ≡ []) }
 {
     let program = Program::read(t)?;
     let mut verdicts = [0u8; 512];
@@ -40,11 +43,11 @@ fn put_best(text: &mut Text, t: &[u8]) -> Result<(), Refused>
 // What the program prints for a table of any length.
 #[tactic(auto, using(crate::specs::Listing::too_long, crate::specs::Listing::refused))]
 pub fn listing(t: &[u8]) -> Text
-    ensures listing_of { ListingOf t.now result }
+    ensures listing_of { ListingOf t.now result.0.bytes }
 {
     let mut text = Text::new();
-    if 12800 < t.len() {
-        text.push_bytes(b"too long\n");
+    if LONGEST < t.len() {
+        text.push("too long\n");
     } else if let Err(refused) = put_best(&mut text, t) {
         text.push_refusal(refused);
     }

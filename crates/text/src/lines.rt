@@ -7,30 +7,31 @@ ghost use Rattle.text.specs.Listing.{size_field, four_fields, verdict_word, func
 use crate::text::{ROOM, Text};
 use table::refusal::Refused;
 
-// The word of a spawn's verdict.
+// The word of a spawn's verdict, which is a byte: a choice is bytes, as the caller's buffer has them.
 #[tactic(auto, unfolding(crate::specs::Listing::verdict_word))]
-fn verdict_word(verdict: u8) -> &'static [u8]
+fn verdict_word(verdict: u8) -> &'static str
     ensures word { result.now ≡ verdict_word verdict }
     ensures short { length result.now ≤ 9 }
 {
     match verdict {
-        1 => b"unmerged",
-        2 => b"guarded",
-        _ => b"unguarded",
+        1 => "unmerged",
+        2 => "guarded",
+        _ => "unguarded",
     }
 }
 
 impl Text {
-    // A size, behind a space: its bytes, or `unbounded` for 65,536.
+    // A size, behind a space: its bytes, or `unbounded` for 65,536. `report` has a `Display` for the same, which can't serve here:
+    // a formatter may fail, and nothing says that it won't where there is room.
     #[tactic(auto, unfolding(crate::specs::Listing::size_field, crate::specs::Listing::size_text))]
     fn push_size(&mut self, size: u32)
-        requires { length self.old + 21 ≤ ROOM }
-        ensures appended { self.new ≡ self.old ++ size_field size }
-        ensures room { length self.new ≤ length self.old + 21 }
+        requires { length self.old.0.bytes + 21 ≤ ROOM }
+        ensures appended { self.new.0.bytes ≡ self.old.0.bytes ++ size_field size }
+        ensures room { length self.new.0.bytes ≤ length self.old.0.bytes + 21 }
     {
-        self.push(b' ');
+        self.push(" ");
         match size {
-            65536 => self.push_bytes(b"unbounded"),
+            65536 => self.push("unbounded"),
             _ => self.push_decimal(size as usize),
         }
     }
@@ -38,10 +39,10 @@ impl Text {
     // The four sizes that stand first.
     #[tactic(auto, unfolding(crate::specs::Listing::four_fields))]
     fn push_four(&mut self, sizes: &[u32])
-        requires room { length self.old + 84 ≤ ROOM }
+        requires room { length self.old.0.bytes + 84 ≤ ROOM }
         requires four { 4 ≤ length sizes.now }
-        ensures appended { self.new ≡ self.old ++ four_fields (at sizes.now) }
-        ensures room { length self.new ≤ length self.old + 84 }
+        ensures appended { self.new.0.bytes ≡ self.old.0.bytes ++ four_fields (at sizes.now) }
+        ensures room { length self.new.0.bytes ≤ length self.old.0.bytes + 84 }
     {
         self.push_size(sizes[0]);
         self.push_size(sizes[1]);
@@ -52,43 +53,43 @@ impl Text {
     // The line of function f, whose sizes stand first.
     #[tactic(auto, unfolding(crate::specs::Listing::function_line))]
     pub(crate) fn push_function(&mut self, f: usize, sizes: &[u32])
-        requires room { length self.old + 107 ≤ ROOM }
+        requires room { length self.old.0.bytes + 107 ≤ ROOM }
         requires four { 4 ≤ length sizes.now }
-        ensures appended { self.new ≡ self.old ++ function_line (at sizes.now) f }
-        ensures room { length self.new ≤ length self.old + 107 }
+        ensures appended { self.new.0.bytes ≡ self.old.0.bytes ++ function_line (at sizes.now) f }
+        ensures room { length self.new.0.bytes ≤ length self.old.0.bytes + 107 }
     {
-        self.push_bytes(b"F ");
+        self.push("F ");
         self.push_decimal(f);
         self.push_four(sizes);
-        self.push(b'\n');
+        self.push("\n");
     }
 
     // The line of spawn n, likewise.
     #[tactic(auto, unfolding(crate::specs::Listing::spawn_line))]
     pub(crate) fn push_spawn(&mut self, n: usize, verdict: u8, sizes: &[u32])
-        requires room { length self.old + 117 ≤ ROOM }
+        requires room { length self.old.0.bytes + 117 ≤ ROOM }
         requires four { 4 ≤ length sizes.now }
-        ensures appended { self.new ≡ self.old ++ spawn_line verdict (at sizes.now) n }
-        ensures room { length self.new ≤ length self.old + 117 }
+        ensures appended { self.new.0.bytes ≡ self.old.0.bytes ++ spawn_line verdict (at sizes.now) n }
+        ensures room { length self.new.0.bytes ≤ length self.old.0.bytes + 117 }
     {
-        self.push_bytes(b"S ");
+        self.push("S ");
         self.push_decimal(n);
-        self.push(b' ');
-        self.push_bytes(verdict_word(verdict));
+        self.push(" ");
+        self.push(verdict_word(verdict));
         self.push_four(sizes);
-        self.push(b'\n');
+        self.push("\n");
     }
 
     // `refused N at P`, as a refusal is displayed. A formatter may fail, which a listing can't.
     #[tactic(auto, unfolding(crate::specs::Listing::refusal_line))]
     pub(crate) fn push_refusal(&mut self, refused: Refused)
-        requires { length self.old + 53 ≤ ROOM }
-        ensures { self.new ≡ self.old ++ refusal_line (number_of refused.cause) refused.place }
+        requires { length self.old.0.bytes + 53 ≤ ROOM }
+        ensures { self.new.0.bytes ≡ self.old.0.bytes ++ refusal_line (number_of refused.cause) refused.place }
     {
-        self.push_bytes(b"refused ");
+        self.push("refused ");
         self.push_decimal(u32::from(refused.cause) as usize);
-        self.push_bytes(b" at ");
+        self.push(" at ");
         self.push_decimal(refused.place);
-        self.push(b'\n');
+        self.push("\n");
     }
 }

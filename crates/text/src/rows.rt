@@ -9,9 +9,9 @@ use crate::text::{ROOM, Text};
 #[tactic(auto, using(crate::proofs::Joining::rows))]
 impl Text {
     pub(crate) fn push_functions(&mut self, chosen: &Chosen<'_>)
-        requires { length self.old + 107 * chosen.now.program.of.functions ≤ ROOM }
-        ensures appended { self.new ≡ self.old ++ joined (function_text chosen.now) chosen.now.program.of.functions }
-        ensures room { length self.new ≤ length self.old + 107 * chosen.now.program.of.functions }
+        requires { length self.old.0.bytes + 107 * chosen.now.program.of.functions ≤ ROOM }
+        ensures appended { self.new.0.bytes ≡ self.old.0.bytes ++ joined (function_text chosen.now) chosen.now.program.of.functions }
+        ensures room { length self.new.0.bytes ≤ length self.old.0.bytes + 107 * chosen.now.program.of.functions }
     {
         for f in 0..chosen.program.of.functions {
             self.push_function(f, &chosen.sizes[4 * f..]);
@@ -20,10 +20,10 @@ impl Text {
 
     // The line of node n, if it is a spawn.
     fn push_node(&mut self, chosen: &Chosen<'_>, n: usize)
-        requires room { length self.old + 117 ≤ ROOM }
+        requires room { length self.old.0.bytes + 117 ≤ ROOM }
         requires node { n < chosen.now.program.of.nodes }
-        ensures appended { self.new ≡ self.old ++ node_text chosen.now n }
-        ensures room { length self.new ≤ length self.old + 117 }
+        ensures appended { self.new.0.bytes ≡ self.old.0.bytes ++ node_text chosen.now n }
+        ensures room { length self.new.0.bytes ≤ length self.old.0.bytes + 117 }
     {
         if chosen.program.is_spawn(n) {
             let at = 4 * (chosen.program.of.functions + n);
@@ -32,8 +32,8 @@ impl Text {
     }
 
     pub(crate) fn push_spawns(&mut self, chosen: &Chosen<'_>)
-        requires { length self.old + 117 * chosen.now.program.of.nodes ≤ ROOM }
-        ensures { self.new ≡ self.old ++ joined (node_text chosen.now) chosen.now.program.of.nodes }
+        requires { length self.old.0.bytes + 117 * chosen.now.program.of.nodes ≤ ROOM }
+        ensures { self.new.0.bytes ≡ self.old.0.bytes ++ joined (node_text chosen.now) chosen.now.program.of.nodes }
     {
         for n in 0..chosen.program.of.nodes {
             self.push_node(chosen, n);
@@ -42,8 +42,8 @@ impl Text {
 
     // The lines of the functions, and then those of the spawns.
     pub(crate) fn push_listing(&mut self, chosen: &Chosen<'_>)
-        requires { self.old ≡ [] }
-        ensures { self.new ≡ text_of chosen.now }
+        requires { self.old.0.bytes ≡ [] }
+        ensures { self.new.0.bytes ≡ text_of chosen.now }
     {
         self.push_functions(chosen);
         self.push_spawns(chosen);

@@ -1,70 +1,43 @@
 // A text that is being made.
-ghost use Rattle.std.specs.Prelude.{◌≡◌, ◌+◌, ◌<◌, ◌≤◌, [], ◌∷◌, ◌++◌, length};
+ghost use Rattle.std.specs.Prelude.{◌≡◌, ◌+◌, ◌≤◌, [], ◌++◌, length};
 ghost use Rattle.text.specs.Listing.{decimal};
 
-use std::marker::Model;
+use arrayvec::ArrayString;
 
 // Room for the longest listing, with 20 digits for each number: 64 lines of 107 bytes and 512 of 117.
 pub(crate) const ROOM: usize = 64 * 107 + 512 * 117;
 
-// The bytes so far, in fixed memory: there is no heap.
-#[derive(Clone, Drop)]
-pub struct Text {
-    bytes: [u8; ROOM],
-    len: usize,
-}
-
-impl Model for Text {
-    ghost use Rattle.std.specs.Prelude.{ℕ, ◌≤◌, List, take};
-    ghost use Rattle.text.specs.declared.text.TheConstants.{ROOM};
-
-    ghost Value = { List ℕ };
-
-    ghost view = { λ t. take t.len t.bytes };
-
-    ghost invariant = { λ t. t.len ≤ ROOM };
-}
+// What is written so far, in fixed memory: there is no heap.
+#[derive(Clone, Copy)]
+pub struct Text(ArrayString<ROOM>);
 
 impl Text {
     pub(crate) fn new() -> Text
-        ensures { result ≡ [] }
+        ensures { result.0.bytes ≡ [] }
     {
-        Text {
-            bytes: [0; ROOM],
-            len: 0,
-        }
+        Text(ArrayString::new())
     }
 
     pub fn as_bytes(&self) -> &[u8]
-        ensures { result.now ≡ self.now }
+        ensures { result.now ≡ self.now.0.bytes }
     {
-        &self.bytes[..self.len]
+        self.0.as_bytes()
     }
 
-    pub(crate) fn push(&mut self, byte: u8)
-        requires { length self.old < ROOM }
-        ensures { self.new ≡ self.old ++ byte ∷ [] }
+    pub(crate) fn push(&mut self, piece: &str)
+        requires { length self.old.0.bytes + length piece.now ≤ ROOM }
+        ensures { self.new.0.bytes ≡ self.old.0.bytes ++ piece.now }
     {
-        self.bytes[self.len] = byte;
-        self.len += 1;
+        self.0.push_str(piece);
     }
 
-    pub(crate) fn push_bytes(&mut self, word: &[u8])
-        requires { length self.old + length word.now ≤ ROOM }
-        ensures { self.new ≡ self.old ++ word.now }
-    {
-        let end = self.len + word.len();
-        self.bytes[self.len..end].copy_from_slice(word);
-        self.len = end;
-    }
-
-    // A number in decimal, of at most 20 digits.
+    // A number in decimal, of at most 20 digits. A `u32` comes widened by `as`, which loses nothing: a `usize` has 64 bits.
     #[tactic(auto, using(crate::proofs::Fields::decimal_is))]
     pub(crate) fn push_decimal(&mut self, n: usize)
-        requires { length self.old + 20 ≤ ROOM }
-        ensures appended { self.new ≡ self.old ++ decimal n }
-        ensures room { length self.new ≤ length self.old + 20 }
+        requires { length self.old.0.bytes + 20 ≤ ROOM }
+        ensures appended { self.new.0.bytes ≡ self.old.0.bytes ++ decimal n }
+        ensures room { length self.new.0.bytes ≤ length self.old.0.bytes + 20 }
     {
-        self.push_bytes(itoa::Buffer::new().format(n).as_bytes());
+        self.push(itoa::Buffer::new().format(n));
     }
 }

@@ -6,6 +6,6 @@ use Rattle.text.proofs.text.Text.push_functions.Given as goal
 
 abbrev pub invariant-loop-f : goal.invariant-loop-f
 invariant-loop-f l = record {
-  appended : l.self ≡ l.initial.self ++ joined (function_text l.chosen) l.f;
-  room : length l.self ≤ length l.initial.self + 107 * l.f;
+  appended : l.self.0.bytes ≡ l.initial.self.0.bytes ++ joined (function_text l.chosen) l.f;
+  room : length l.self.0.bytes ≤ length l.initial.self.0.bytes + 107 * l.f;
 }

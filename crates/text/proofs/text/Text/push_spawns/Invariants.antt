@@ -6,6 +6,6 @@ use Rattle.text.proofs.text.Text.push_spawns.Given as goal
 
 abbrev pub invariant-loop-n : goal.invariant-loop-n
 invariant-loop-n l = record {
-  appended : l.self ≡ l.initial.self ++ joined (node_text l.chosen) l.n;
-  room : length l.self ≤ length l.initial.self + 117 * l.n;
+  appended : l.self.0.bytes ≡ l.initial.self.0.bytes ++ joined (node_text l.chosen) l.n;
+  room : length l.self.0.bytes ≤ length l.initial.self.0.bytes + 117 * l.n;
 }
