@@ -7,7 +7,8 @@ ghost use Rattle.order.specs.Order.{Ordered};
 use order::sure::{get, make_sure, put};
 use program::Program;
 
-// The edges that a search has left: the first of each from-node, and the next after each edge.
+// The edges that a search has left: the first of each from-node, and the next after each edge. They are linked by number, since there
+// is no heap.
 #[derive(Drop)]
 struct Links {
     first: [Option<u16>; 512],
@@ -19,6 +20,7 @@ impl Links {
     fn put(&mut self, n: usize, e: usize) {
         if n < 512 && e < 1024 {
             self.next[e] = self.first[n];
+            // By `as`, since the test bounds e: `try_from` would ask for an answer where it does not fit.
             self.first[n] = Some(e as u16);
         }
     }

@@ -42,10 +42,10 @@ fn waits(targets: &[u64], left: u64, f: usize) -> bool {
 }
 
 // The first function that is left and has no targets left, or else the first that is left.
-fn next_function(functions: usize, targets: &[u64], left: u64) -> Option<usize> {
-    (0..functions)
+fn next_function(targets: &[u64], left: u64) -> Option<usize> {
+    (0..targets.len())
         .find(|f| is_left(left, *f) && !waits(targets, left, *f))
-        .or_else(|| (0..functions).find(|f| is_left(left, *f)))
+        .or_else(|| (0..targets.len()).find(|f| is_left(left, *f)))
 }
 
 // Takes functions until none is left.
@@ -55,7 +55,7 @@ fn search_all(program: &Program<'_>) -> [u16; 64] {
     find_targets(program, &mut targets);
     let mut left = u64::MAX;
     for q in 0..program.of.functions {
-        if let Some(f) = next_function(program.of.functions, &targets, left) {
+        if let Some(f) = next_function(&targets[..program.of.functions], left) {
             put(&mut order, q, f);
             left &= !bit(f);
         }

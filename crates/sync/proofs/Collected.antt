@@ -34,13 +34,13 @@ module _ (keep : ℕ → Bool) (item : ℕ → ℕ) where
   collected_none = record { exact = member_empty }
 
   module _ (k : ℕ) (u : List ℕ) (c : Collected keep item k u) where
-    pub collected_keep : (v : List ℕ) → keep k ≡ true → ((n : ℕ) → member v n ≡ (eqb n (item k) || member u n)) → Collected keep item (k + 1) v
-    collected_keep v h with = record {
+    pub collected_keep : (v : List ℕ) (x : ℕ) → (keep k ≡ true) × (x ≡ item k) → ((n : ℕ) → member v n ≡ (eqb n x || member u n)) → Collected keep item (k + 1) v
+    collected_keep v x is with = record {
       exact = λ n.
-          with n
+          rw (← is.1) (with n)
           ∙ ap (λ (b : Bool). eqb n (item k) || b) (c.exact n)
           ∙ or_comm (eqb n (item k)) _
-          ∙ ap (λ (b : Bool). any (λ i. keep i && eqb n (item i)) k || (b && eqb n (item k))) (sym h)
+          ∙ ap (λ (b : Bool). any (λ i. keep i && eqb n (item i)) k || (b && eqb n (item k))) (sym is.0)
           ∙ sym (any_more _ k);
     }
 

@@ -21,9 +21,6 @@ module _ (t avoid words : List ℕ) (e : ℕ) (h : leads_on t avoid words e ≡ 
   pub leads_clear : member avoid (edge_to t e) ≡ false
   leads_clear = not-true _ leads.1
 
-  pub leads_fresh : member words (edge_to t e) ≡ false
-  leads_fresh = not-true _ leads.2
-
 -- an edge that leads nowhere new
 pub leads_nowhere : (t avoid words : List ℕ) (e : ℕ) → leads_on t avoid words e ≡ false → member words (edge_from t e) ≡ true → member avoid (edge_to t e) ≡ false → member words (edge_to t e) ≡ true
 leads_nowhere t avoid words e h from clear =
@@ -40,9 +37,6 @@ module _ (t reached words : List ℕ) (n : ℕ) (h : blocked_call t reached word
 
   pub call_blocked : member reached ((program_of t).exit ((program_of t).target n)) ≡ false
   call_blocked = not-true _ blocked.1
-
-  pub call_fresh : member words n ≡ false
-  call_fresh = not-true _ blocked.2
 
 -- a blocked call that is not to be added
 pub call_nowhere : (t reached words : List ℕ) (n : ℕ) → blocked_call t reached words n ≡ false → (program_of t).sort n ≡ call → member reached ((program_of t).exit ((program_of t).target n)) ≡ false → member words n ≡ true

@@ -75,14 +75,14 @@ module _ (lets : List ℕ → ℕ → Bool) (item : ℕ → ℕ) (total : ℕ) (
       falls = p.falls;
     }
 
-    pub swept_add : (v : List ℕ) → k < total → lets u k ≡ true → item k < 512 → member u (item k) ≡ false → ((n : ℕ) → member v n ≡ (eqb n (item k) || member u n)) → Swept lets item total (k + 1) w v true
-    swept_add v l h small fresh with = record {
-      grown = more p.grown l h with;
+    pub swept_add : (v : List ℕ) (n : ℕ) → k < total → (lets u k ≡ true) × (n ≡ item k) × (member u n ≡ false) → n < 512 → ((m : ℕ) → member v m ≡ (eqb m n || member u m)) → Swept lets item total (k + 1) w v true
+    swept_add v n l is small with = record {
+      grown = more p.grown l is.0 (rw (← is.1) with);
       quiet = λ q. not_both true refl q;
-      falls = omega (arith, with_room u v (item k) with small fresh, p.falls);
+      falls = omega (arith, with_room u v n with small is.2, p.falls);
     }
 
   -- where all items were looked at
-  pub swept_all : (v : List ℕ) (grew : Bool) (o : Option (List ℕ)) → Swept lets item total total w v grew → o ≡ then_some grew v → SweptAll lets item total w o
-  swept_all v true o p e = rw e (p.grown, omega (arith, p.falls))
-  swept_all v false o p e = rw e (p.quiet refl).1
+  pub swept_all : (k : ℕ) (v : List ℕ) (grew : Bool) (o : Option (List ℕ)) → k ≡ total → Swept lets item total k w v grew → o ≡ then_some grew v → SweptAll lets item total w o
+  swept_all k v true o q p e = rw e (p.grown, omega (arith, p.falls))
+  swept_all k v false o q p e = rw (e, ← q) (p.quiet refl).1

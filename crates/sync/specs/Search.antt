@@ -1,5 +1,6 @@
 -- For the contracts of the search. Helps proofs only: no public promise rests on it.
 use Rattle.std.specs.Prelude.{ℕ, ◌+◌, ◌<◌, ◌≤◌, ◌≡◌, List, Bool, true, false, cond, not, ◌&&◌, ◌||◌, ◌⊎◌, ◌↔◌, eqb, get_or, Option, None, Some}
+use Rattle.std.specs.Borrow.{Bor}
 use Rattle.table.specs.Below.{any, count}
 use Rattle.table.specs.Record.{sync, call, edge_from, edge_to}
 use Rattle.table.specs.Program.{Program, program_of}
@@ -14,6 +15,11 @@ From g avoid from n = (a : ℕ) × (from a ≡ true) × ((p : Path g a n) × Cle
 -- the words keep just the items below k that are kept
 pub record Collected (keep : ℕ → Bool) (item : ℕ → ℕ) (k : ℕ) (words : List ℕ) : Type 0 where
   pub exact : (n : ℕ) → member words n ≡ any (λ i. keep i && eqb n (item i)) k
+
+-- What is given for an item below `total`: its node where it is kept, and else nothing.
+pub record Gives (gives : ℕ → Option ℕ → Type 0) (keep : ℕ → Bool) (item : ℕ → ℕ) (total : ℕ) : Type 0 where
+  pub nothing : (i : ℕ) → i < total → gives i None → keep i ≡ false
+  pub node : (i n : ℕ) → i < total → gives i (Some n) → (keep i ≡ true) × (n ≡ item i)
 
 -- how many numbers below 512 are not in the set
 abbrev pub room : List ℕ → ℕ
@@ -35,6 +41,11 @@ pub record Swept (lets : List ℕ → ℕ → Bool) (item : ℕ → ℕ) (total 
 abbrev pub SweptAll : (List ℕ → ℕ → Bool) → (ℕ → ℕ) → ℕ → List ℕ → Option (List ℕ) → Type 0
 SweptAll lets item total w None = (i : ℕ) → i < total → lets w i ≡ false
 SweptAll lets item total w (Some v) = Grown lets item total w v × (room v < room w)
+
+-- What is given for a set and an item below `total`: the item's node where it is let in, which the set lacks, and else nothing.
+pub record Adds (gives : Bor (List ℕ) → ℕ → Option ℕ → Type 0) (lets : List ℕ → ℕ → Bool) (item : ℕ → ℕ) (total : ℕ) : Type 0 where
+  pub nothing : (s : Bor (List ℕ)) (i : ℕ) → i < total → gives s i None → lets s.now i ≡ false
+  pub node : (s : Bor (List ℕ)) (i n : ℕ) → i < total → gives s i (Some n) → (lets s.now i ≡ true) × (n ≡ item i) × (member s.now n ≡ false)
 
 -- the e-th edge leads to a node that is not in the set yet and not to be avoided
 abbrev pub leads_on : List ℕ → List ℕ → List ℕ → ℕ → Bool

@@ -3,6 +3,7 @@
 
 mod collect;
 mod finding;
+mod gather;
 mod search;
 mod settle;
 pub mod words;
@@ -10,7 +11,8 @@ pub mod words;
 pub use finding::synchronising;
 use program::Program;
 
-// A program, and two sets of its nodes.
+// A program, and two sets of its nodes. What holds of the sets, `Looked`, gives paths for the nodes that are reached. A ghost field
+// can only say that something holds and gives nothing, so `Looked` stands in the contracts.
 #[derive(Clone, Copy)]
 pub struct Known<'a> {
     pub program: Program<'a>,

@@ -1,22 +1,24 @@
 // Searches along edges.
-ghost use Rattle.std.specs.Prelude.{◌≡◌, true, ◌↔◌, ℕ, ◌<◌};
+ghost use Rattle.std.specs.Prelude.{◌≡◌, true, false, ◌↔◌, ℕ, ◌<◌, MatchOption};
 ghost use Rattle.table.specs.Program.{program_of};
+ghost use Rattle.table.specs.Record.{edge_to};
 ghost use Rattle.sync.specs.Words.{member};
 ghost use Rattle.order.specs.Order.{Ordered};
 ghost use Rattle.sync.specs.Search.{From, EdgesSwept, leads_on};
 
-use crate::words::{has, insert};
+use crate::gather::grown;
+use crate::words::has;
 use order::sure::get;
 use program::Program;
 
-// Whether edge e leads on from the set, to a node that is neither in it nor to be avoided.
-fn leads_on(program: &Program<'_>, avoid: [u64; 8], set: [u64; 8], e: usize) -> bool
+// Where edge e leads on to from the set: a node that is neither in it nor to be avoided, if there is one.
+fn leads_on(program: &Program<'_>, avoid: [u64; 8], set: [u64; 8], e: usize) -> Option<usize>
     requires { e < program.now.of.edges }
-    ensures { result ≡ leads_on program.now.table.now avoid set e }
+    ensures { MatchOption result (leads_on program.now.table.now avoid set e ≡ false) (λ b. (leads_on program.now.table.now avoid set e ≡ true) × (b ≡ edge_to program.now.table.now e) × (b < 512)) }
 {
     let a = program.edge_from(e);
     let b = program.edge_to(e);
-    has(set, a) & !has(avoid, b) & !has(set, b)
+    (has(set, a) & !has(avoid, b) & !has(set, b)).then_some(b)
 }
 
 // One sweep over the edges, in the order given: the set with what it adds, if it adds anything.
@@ -24,16 +26,11 @@ fn sweep(program: &Program<'_>, order: &[u16], avoid: [u64; 8], from: [u64; 8]) 
     requires { Ordered program.now.of.edges order.now }
     ensures { EdgesSwept program.now.table.now order.now avoid program.now.of.edges from result }
 {
-    let mut set = from;
-    let mut grew = false;
-    for i in 0..program.of.edges {
-        let e = get(order, i);
-        if leads_on(program, avoid, set, e) {
-            insert(&mut set, program.edge_to(e));
-            grew = true;
-        }
-    }
-    grew.then_some(set)
+    grown(
+        from,
+        program.of.edges,
+        |set, i| leads_on(program, avoid, *set, get(order, i)),
+    )
 }
 
 // The nodes that are reached from a set by paths none of whose nodes after the first is to be avoided. In the order of a

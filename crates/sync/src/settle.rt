@@ -5,8 +5,9 @@ ghost use Rattle.sync.specs.Search.{SweptAll, blocked_call};
 
 use crate::Known;
 use crate::collect::{firsts, syncs};
+use crate::gather::grown;
 use crate::search::reach;
-use crate::words::{has, insert};
+use crate::words::has;
 use program::Program;
 use search_order::edges::order_edges;
 
@@ -24,15 +25,11 @@ fn is_blocked_call(program: &Program<'_>, reached: [u64; 8], set: [u64; 8], n: u
 fn with_blocked_calls(program: &Program<'_>, reached: [u64; 8], from: [u64; 8]) -> Option<[u64; 8]>
     ensures { SweptAll (blocked_call program.now.table.now reached) (λ n. n) program.now.of.nodes from result }
 {
-    let mut set = from;
-    let mut grew = false;
-    for n in 0..program.of.nodes {
-        if is_blocked_call(program, reached, set, n) {
-            insert(&mut set, n);
-            grew = true;
-        }
-    }
-    grew.then_some(set)
+    grown(
+        from,
+        program.of.nodes,
+        |set, n| is_blocked_call(program, reached, *set, n).then_some(n),
+    )
 }
 
 // The synchronising set of a program, and the nodes that it lets paths through to. A pass that adds nothing is the last.
