@@ -31,9 +31,9 @@ impl Program<'_> {
     }
 
     // The frame of function f, in bytes.
-    pub fn frame(&self, f: usize) -> usize
+    pub fn frame(&self, f: usize) -> u16
         requires { f < self.now.of.functions }
-        ensures { (result ≡ (program_of self.now.table.now).frame f) × (result < 65536) }
+        ensures { result ≡ (program_of self.now.table.now).frame f }
     {
         record::field_c(self.table, f)
     }

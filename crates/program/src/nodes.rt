@@ -31,6 +31,7 @@ impl Program<'_> {
         }
     }
 
+    // This and the next two stay methods of their own: one with the sort beside the node would be no shorter where it is called.
     pub fn is_call(&self, n: usize) -> bool
         requires { n < self.now.of.nodes }
         ensures { result ≡ eqb ((program_of self.now.table.now).sort n) call }
@@ -68,7 +69,8 @@ impl Program<'_> {
         record::field_a(self.table, self.of.functions + n)
     }
 
-    // The target of node n: 0 where it is no call or spawn.
+    // The target of node n: 0 where it is no call or spawn, as in the program of the specs. Its callers ask first which of the two a node
+    // is, which an `Option` would not tell.
     pub fn target(&self, n: usize) -> usize
         requires { n < self.now.of.nodes }
         ensures { (result ≡ (program_of self.now.table.now).target n) × (result < self.now.of.functions) }

@@ -11,3 +11,4 @@ mod Accepted
 mod SameButEdges
 mod Answer
 mod Scanning
+mod Chains

@@ -1,6 +1,8 @@
 // The kinds of records.
-ghost use Rattle.table.specs.Kind.{IsListed};
+ghost use Rattle.std.specs.Prelude.{◌≡◌};
+ghost use Rattle.table.specs.Kind.{IsListed, number_of_kind};
 ghost use Rattle.table.specs.Record.{kind_of};
+ghost use Rattle.table.specs.Scan.{of_kind};
 
 use crate::record::kind;
 
@@ -22,4 +24,11 @@ pub fn listed_kind(t: &[u8], r: usize) -> Option<Kind>
         3 => Some(Kind::Edge),
         _ => None,
     }
+}
+
+// Whether it is of this kind.
+pub(crate) fn is_of(t: &[u8], r: usize, kind: Kind) -> bool
+    ensures { result ≡ of_kind t.now (number_of_kind kind) r }
+{
+    listed_kind(t, r) == Some(kind)
 }

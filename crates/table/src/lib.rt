@@ -11,7 +11,7 @@ ghost use Rattle.std.specs.Prelude.{◌≡◌};
 ghost use Rattle.table.specs.Answer.{outcome, outcome_of};
 ghost use Rattle.table.specs.Scan.{pass_of};
 
-use checks::{is_absent, is_entry, is_foreign, is_not_plain, is_out_of_order, is_unlisted};
+use checks::{Counted, is_entry, is_out_of_order, is_unlisted};
 use refusal::{Cause, Refused};
 use scan::{first, first_too_many, tally};
 
@@ -39,6 +39,7 @@ pub fn check(t: &[u8]) -> Result<Counts, Refused>
 {
     let n = t.len() / 8;
     let of = tally(t, n);
+    let counted = Counted { t, of };
     pass(Cause::Length, (t.len() % 8 != 0).then_some(n))?;
     pass(Cause::Unlisted, first(n, |r| is_unlisted(t, r)))?;
     pass(Cause::OutOfOrder, first(n, |r| is_out_of_order(t, r)))?;
@@ -46,8 +47,8 @@ pub fn check(t: &[u8]) -> Result<Counts, Refused>
     let entry = first(n, |r| is_entry(t, r));
     let no_entry = (of.functions == 0) | entry.is_none();
     pass(Cause::NoEntry, no_entry.then_some(0))?;
-    pass(Cause::Absent, first(n, |r| is_absent(t, of, r)))?;
-    pass(Cause::Foreign, first(n, |r| is_foreign(t, of, r)))?;
-    pass(Cause::NotPlain, first(n, |r| is_not_plain(t, of, r)))?;
+    pass(Cause::Absent, first(n, |r| counted.is_absent(r)))?;
+    pass(Cause::Foreign, first(n, |r| counted.is_foreign(r)))?;
+    pass(Cause::NotPlain, first(n, |r| counted.is_not_plain(r)))?;
     Ok(of)
 }

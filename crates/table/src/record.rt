@@ -14,16 +14,16 @@ fn byte(t: &[u8], r: usize, k: usize) -> u8
 }
 
 // The little-endian number at bytes k and k + 1 of record r.
-fn number(t: &[u8], r: usize, k: usize) -> usize
+fn number(t: &[u8], r: usize, k: usize) -> u16
     requires { k < 7 }
-    ensures { (result ≡ number_of t.now r k) × (result < 65536) }
+    ensures { result ≡ number_of t.now r k }
 {
     // a whole record has both bytes: two tests for each of them would cost a check of a large table a quarter of its time
     if r < t.len() / 8 {
         let at = r * 8 + k;
-        return usize::from(t[at]) + 256 * usize::from(t[at + 1]);
+        return u16::from_le_bytes([t[at], t[at + 1]]);
     }
-    usize::from(byte(t, r, k)) + 256 * usize::from(byte(t, r, k + 1))
+    u16::from_le_bytes([byte(t, r, k), byte(t, r, k + 1)])
 }
 
 #[tactic(auto, unfolding(crate::specs::Record::kind_of))]
@@ -44,19 +44,19 @@ pub fn sort(t: &[u8], r: usize) -> u8
 pub fn field_a(t: &[u8], r: usize) -> usize
     ensures { (result ≡ field_a t.now r) × (result < 65536) }
 {
-    number(t, r, 2)
+    usize::from(number(t, r, 2))
 }
 
 #[tactic(auto, unfolding(crate::specs::Record::field_b))]
 pub fn field_b(t: &[u8], r: usize) -> usize
     ensures { (result ≡ field_b t.now r) × (result < 65536) }
 {
-    number(t, r, 4)
+    usize::from(number(t, r, 4))
 }
 
 #[tactic(auto, unfolding(crate::specs::Record::field_c))]
-pub fn field_c(t: &[u8], r: usize) -> usize
-    ensures { (result ≡ field_c t.now r) × (result < 65536) }
+pub fn field_c(t: &[u8], r: usize) -> u16
+    ensures { result ≡ field_c t.now r }
 {
     number(t, r, 6)
 }

@@ -1,43 +1,27 @@
 // Passes over the records.
 ghost use Rattle.std.specs.Prelude.{◌≡◌, ◌≤◌};
 ghost use Rattle.table.specs.Below.{count, earliest};
+ghost use Rattle.table.specs.Kind.{number_of_kind};
 ghost use Rattle.table.specs.Record.{records};
 ghost use Rattle.table.specs.Checks.{too_many};
 ghost use Rattle.table.specs.Answer.{CountsOf};
 ghost use Rattle.table.specs.Scan.{FirstBy, of_kind, surplus_of};
 
 use crate::Counts;
-use crate::record::kind;
+use crate::kinds::{Kind, is_of};
 
-// How many of the first n records are of kind k.
-#[tactic(auto, using(crate::proofs::Below::count_none, crate::proofs::Below::count_more, crate::proofs::Below::count_le))]
-pub(crate) fn count_kind(t: &[u8], k: u8, n: usize) -> usize
-    ensures { result ≡ count (of_kind t.now k) n }
+// How many of the first n records are of the kind.
+pub(crate) fn count_kind(t: &[u8], kind: Kind, n: usize) -> usize
+    ensures { result ≡ count (of_kind t.now (number_of_kind kind)) n }
 {
-    let mut seen: usize = 0;
-    for r in 0..n {
-        if kind(t, r) == k {
-            seen += 1;
-        }
-    }
-    seen
+    (0..n).filter(|r| is_of(t, *r, kind)).count()
 }
 
-// The first of n records that is one more of kind k than the limit.
-#[tactic(auto, using(crate::proofs::Below::count_none, crate::proofs::Below::count_more, crate::proofs::Below::count_le, crate::proofs::Below::passed_more, crate::proofs::Below::earliest_some, crate::proofs::Below::earliest_none))]
-pub(crate) fn first_surplus(t: &[u8], k: u8, limit: usize, n: usize) -> Option<usize>
-    ensures { result ≡ earliest (surplus_of t.now k limit) n }
+// The first of n records that is one more of the kind than the limit.
+pub(crate) fn first_surplus(t: &[u8], kind: Kind, limit: usize, n: usize) -> Option<usize>
+    ensures { result ≡ earliest (surplus_of t.now (number_of_kind kind) limit) n }
 {
-    let mut seen: usize = 0;
-    for r in 0..n {
-        if kind(t, r) == k {
-            if limit <= seen {
-                return Some(r);
-            }
-            seen += 1;
-        }
-    }
-    None
+    (0..n).filter(|r| is_of(t, *r, kind)).nth(limit)
 }
 
 // How many of the n records are of each kind.
@@ -46,9 +30,9 @@ pub(crate) fn tally(t: &[u8], n: usize) -> Counts
     ensures { CountsOf t.now result }
 {
     Counts {
-        functions: count_kind(t, 1, n),
-        nodes: count_kind(t, 2, n),
-        edges: count_kind(t, 3, n),
+        functions: count_kind(t, Kind::Function, n),
+        nodes: count_kind(t, Kind::Node, n),
+        edges: count_kind(t, Kind::Edge, n),
     }
 }
 
@@ -57,9 +41,9 @@ pub(crate) fn tally(t: &[u8], n: usize) -> Counts
 pub(crate) fn first_too_many(t: &[u8], n: usize) -> Option<usize>
     ensures { result ≡ earliest (too_many t.now) n }
 {
-    let function = first_surplus(t, 1, 64, n);
-    let node = first_surplus(t, 2, 512, function.unwrap_or(n)).or(function);
-    first_surplus(t, 3, 1024, node.unwrap_or(n)).or(node)
+    let function = first_surplus(t, Kind::Function, 64, n);
+    let node = first_surplus(t, Kind::Node, 512, function.unwrap_or(n)).or(function);
+    first_surplus(t, Kind::Edge, 1024, node.unwrap_or(n)).or(node)
 }
 
 // The first of n records at which the test passes.
@@ -67,10 +51,5 @@ pub(crate) fn first<F: Fn(usize) -> bool>(n: usize, test: F) -> Option<usize>
     requires { F.IsAlwaysCallable test }
     ensures { FirstBy (F.post test) n result }
 {
-    for r in 0..n {
-        if test(r) {
-            return Some(r);
-        }
-    }
-    None
+    (0..n).find(|r| test(*r))
 }

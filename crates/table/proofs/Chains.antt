@@ -1,0 +1,77 @@
+-- What a chain over the numbers below a bound finds: how many pass a test, which is the first past a limit of them, and which is the first.
+use Prim.Native.Nat.{ℕ, zero, suc, ◌+◌, ◌<◌, ◌≤◌}
+use mathlib.Core.Path.{◌≡◌, refl, sym, ap, ◌∙◌, subst}
+use mathlib.Core.List.{List, ◌∷◌}
+use mathlib.Core.Bool.{Bool, true, false, cond, ◌&&◌}
+use native.Mathlib.Omega.{arith}
+use Rattle.std.proofs.Common.{add-zero, zero-add}
+use lib.Dec.{leb}
+use lib.ListN.{length}
+use borrow.Author.Tests.{le-leb, lt-leb}
+use Rattle.std.specs.Prelude.{Option, None, Some, MatchOption, option_map}
+use Rattle.std.specs.List.{filter, range_with_len, slice_get}
+use Rattle.table.specs.Below.{earliest, count}
+use Rattle.table.specs.Scan.{FirstBy}
+use Rattle.table.proofs.Booleans.{some_not_none}
+use Rattle.table.proofs.Below.{earliest_none, earliest_some, passed_more, count_none, count_more}
+
+module _ (f : ℕ → Bool) where
+  -- of the n numbers from a on, those that pass
+  abbrev passing : ℕ → ℕ → List ℕ
+  passing a n = filter f (range_with_len a n)
+
+  counted_from : (a n : ℕ) → length (passing a n) + count f a ≡ count f (a + n)
+  counted_from a zero = zero-add (count f a) ∙ ap (count f) (sym (add-zero a))
+  counted_from a (suc n) = go (f a) refl (counted_from (a + 1) n ∙ ap (count f) (let e : a + 1 + n ≡ a + suc n = omega arith in e))
+    where
+      go : (b : Bool) → f a ≡ b → length (passing (a + 1) n) + count f (a + 1) ≡ count f (a + suc n) → length (cond b (a ∷ passing (a + 1) n) (passing (a + 1) n)) + count f a ≡ count f (a + suc n)
+      go true e ih = omega (arith, ih, rw e at (count_more f a))
+      go false e ih = omega (arith, ih, rw e at (count_more f a))
+
+  -- as many as the count of those below n
+  pub counted : (n : ℕ) → length (passing 0 n) ≡ count f n
+  counted n = omega (arith, counted_from 0 n, count_none f, ap (count f) (zero-add n))
+
+  -- a number that passes, with as many as the limit before it: it is at the limit's place among those that pass
+  abbrev surplus : ℕ → ℕ → Bool
+  surplus limit k = f k && leb limit (count f k)
+
+  module _ (limit : ℕ) where
+    surplus_from : (a n j : ℕ) → count f a + j ≡ limit → ((k : ℕ) → k < a → surplus limit k ≡ false) → slice_get (passing a n) j ≡ earliest (surplus limit) (a + n)
+    surplus_from a zero j e none = sym (earliest_none (surplus limit) (a + zero) (λ k l. none k (omega arith)))
+    surplus_from a (suc n) j e none = go (f a) refl j e (λ i q. surplus_from (a + 1) n i q)
+      where
+        shift : earliest (surplus limit) (a + 1 + n) ≡ earliest (surplus limit) (a + suc n)
+        shift = ap (earliest (surplus limit)) (omega arith)
+
+        go : (b : Bool) → f a ≡ b → (j : ℕ) → count f a + j ≡ limit
+            → ((i : ℕ) → count f (a + 1) + i ≡ limit → ((k : ℕ) → k < a + 1 → surplus limit k ≡ false) → slice_get (passing (a + 1) n) i ≡ earliest (surplus limit) (a + 1 + n))
+            → slice_get (cond b (a ∷ passing (a + 1) n) (passing (a + 1) n)) j ≡ earliest (surplus limit) (a + suc n)
+        go true e zero q ih = sym (earliest_some (surplus limit) (a + suc n) a (omega arith) none (rw (e, le-leb limit (count f a) (omega arith)) refl))
+        go true e (suc j) q ih = ih j (omega (arith, rw e at (count_more f a))) (passed_more (surplus limit) a none (rw (e, lt-leb limit (count f a) (omega arith)) refl)) ∙ shift
+        go false e j q ih = ih j (omega (arith, rw e at (count_more f a))) (passed_more (surplus limit) a none (rw e refl)) ∙ shift
+
+    pub surplus_found : (n : ℕ) (o : Option ℕ) → option_map (λ x. x) o ≡ slice_get (passing 0 n) limit → o ≡ earliest (surplus limit) n
+    surplus_found n o e =
+        sym (same o) ∙ e ∙ surplus_from 0 n limit (omega (arith, count_none f)) (λ k l. absurd (omega arith)) ∙ ap (earliest (surplus limit)) (zero-add n)
+      where
+        same : (o : Option ℕ) → option_map (λ x. x) o ≡ o
+        same None = refl
+        same (Some x) = refl
+
+-- what a search by a closure says, as a record
+pub found_by : {gives : ℕ → Bool → Type 0} (n : ℕ) (o : Option ℕ)
+    → MatchOption o ((k : ℕ) → 0 ≤ k → k < n → gives k false) (λ r. (0 ≤ r) × (r < n) × gives r true × ((k : ℕ) → 0 ≤ k → k < r → gives k false))
+    → FirstBy gives n o
+found_by n None h = record {
+  nowhere = λ e k l. h k (omega arith) l;
+  within = λ r e. absurd (some_not_none r (sym e));
+  before = λ r e. absurd (some_not_none r (sym e));
+  here = λ r e. absurd (some_not_none r (sym e));
+}
+found_by {gives} n (Some p) h = record {
+  nowhere = λ e. absurd (some_not_none p e);
+  within = λ r e. let i : p ≡ r = cc in subst (λ m. m < n) i h.1;
+  before = λ r e. let i : p ≡ r = cc in subst (λ m. (k : ℕ) → k < m → gives k false) i (λ k l. h.3 k (omega arith) l);
+  here = λ r e. let i : p ≡ r = cc in subst (λ m. gives m true) i h.2;
+}
