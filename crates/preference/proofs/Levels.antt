@@ -12,6 +12,7 @@ use lib.Seq.{get_or-set_same, get_or-set_other}
 use borrow.Author.Count.{below_more}
 use borrow.Author.Tests.{eq-eqb, eqb-true}
 use Rattle.std.specs.Prelude.{Option, None, Some}
+use Rattle.std.specs.Bool.{then_some}
 use Rattle.std.specs.Option.{is_none, unwrap_or}
 use Rattle.table.specs.Record.{has_target}
 use Rattle.table.specs.Program.{Program}
@@ -19,7 +20,7 @@ use Rattle.table.specs.WellFormed.{WellFormed}
 use Rattle.table.proofs.Booleans.{either_way, not_both, and_true_left, and_true_right}
 use Rattle.table.proofs.Below.{count_le, count_strict}
 use Rattle.preference.specs.Depth.{Away, Fewest, DepthOf}
-use Rattle.preference.specs.Levels.{found_in, Levels, unfound, is_level, leads_down, Deepened, Sounded}
+use Rattle.preference.specs.Levels.{found_in, Levels, unfound, is_level, leads_down, Deepening, Deepened, Sounded}
 
 -- a function has a depth or none
 known : (o : Option ℕ) → (o ≡ None) ⊎ ((d : ℕ) × (o ≡ Some d))
@@ -86,7 +87,7 @@ levels_start g depth p = record { found = λ f d h e. go f d h (either_way (g.en
 -- ---- one level more
 
 module _ (g : Program) (level : ℕ) (old : ℕ → Option ℕ) (p : Levels g level old) (formed : WellFormed g) where
-  module _ (new : ℕ → Option ℕ) (grew : Bool) (d : Deepened g level g.nodes old new grew) where
+  module _ (new : ℕ → Option ℕ) (grew : Bool) (d : Deepening g level g.nodes old new grew) where
     -- a new depth is one more than the level
     new_found : (f k : ℕ) → f < g.functions → new f ≡ Some k → (k ≤ level + 1) × Away g f k
     new_found f k h q = go (d.moved f h)
@@ -135,32 +136,41 @@ module _ (g : Program) (level : ℕ) (old : ℕ → Option ℕ) (p : Levels g le
             let e : k ≡ suc level = omega (arith, q) in
             last f k h e (subst (λ (j : ℕ). Away g f j) e a)
 
-    -- a level that leads to no other function is the last
-    pub levels_done : grew ≡ false → Sounded g new
-    levels_done quiet = record { unreached = λ f h e k a. has_depth f k h a e; reached = least }
+  -- a level that leads to no other function is the last
+  module _ (none : (n : ℕ) → n < g.nodes → leads_down g level old n ≡ false) where
+    stays : Deepening g level g.nodes old old false
+    stays = record {
+      moved = λ f h. inl refl;
+      passed = λ n h s o e. not_both (leads_down g level old n) (rw (s, o, e, eq-eqb level level refl) refl) (none n h);
+      quiet = λ q f h. refl;
+      falls = omega arith;
+    }
+
+    pub levels_done : Sounded g old
+    levels_done = record { unreached = λ f h e k a. has_depth f k h a e; reached = least }
       where
-        has_depth : (f k : ℕ) → f < g.functions → Away g f k → new f ≡ None → ⊥
-        has_depth f zero h a e = let w = levels_next.complete f 0 h (omega arith) a in cc (w.1, e)
+        has_depth : (f k : ℕ) → f < g.functions → Away g f k → old f ≡ None → ⊥
+        has_depth f zero h a e = let w = p.complete f 0 h (omega arith) a in cc (w.1, e)
         has_depth f (suc k) h (n, b, s, t, a) e =
             let o = formed.owner_exists n b in
             ⊎_elim
-            (λ (z : old (g.owner n) ≡ None). has_depth (g.owner n) k o a (d.quiet quiet (g.owner n) o ∙ z))
-            (λ (v : (j : ℕ) × (old (g.owner n) ≡ Some j)). led n v.0 b s v.1 (ap new t ∙ e))
+            (λ (z : old (g.owner n) ≡ None). has_depth (g.owner n) k o a z)
+            (λ (v : (j : ℕ) × (old (g.owner n) ≡ Some j)). led old false stays n v.0 b s v.1 (ap old t ∙ e))
             (known (old (g.owner n)))
 
-        least : (f j : ℕ) → f < g.functions → new f ≡ Some j → Fewest g f j
-        least f j h e = record { reached = (new_found f j h e).1; fewest = λ k a. within k a (dec_le k (level + 1)) }
+        least : (f j : ℕ) → f < g.functions → old f ≡ Some j → Fewest g f j
+        least f j h e = record { reached = (p.found f j h e).1; fewest = λ k a. within k a (dec_le k level) }
           where
-            within : (k : ℕ) → Away g f k → Dec (k ≤ level + 1) → j ≤ k
+            within : (k : ℕ) → Away g f k → Dec (k ≤ level) → j ≤ k
             within k a (yes l) =
-                let w = levels_next.complete f k h l a in
+                let w = p.complete f k h l a in
                 let s : j ≡ w.0 = cc (w.1, e) in
                 omega (arith, w.2)
-            within k a (no l) = omega (arith, (new_found f j h e).0, l)
+            within k a (no l) = omega (arith, (p.found f j h e).0, l)
 
 -- ---- the nodes one after another
 
-pub deepened_none : (g : Program) (level : ℕ) (depth : ℕ → Option ℕ) → Deepened g level 0 depth depth false
+pub deepened_none : (g : Program) (level : ℕ) (depth : ℕ → Option ℕ) → Deepening g level 0 depth depth false
 deepened_none g level depth = record {
   moved = λ f h. inl refl;
   passed = λ m h. absurd (omega arith);
@@ -168,7 +178,7 @@ deepened_none g level depth = record {
   falls = omega arith;
 }
 
-module _ (g : Program) (level n : ℕ) (old : ℕ → Option ℕ) (p : Levels g level old) (formed : WellFormed g) (exists : n < g.nodes) (l : List (Option ℕ)) (grew : Bool) (d : Deepened g level n old (found_in l) grew) where
+module _ (g : Program) (level n : ℕ) (old : ℕ → Option ℕ) (p : Levels g level old) (formed : WellFormed g) (exists : n < g.nodes) (l : List (Option ℕ)) (grew : Bool) (d : Deepening g level n old (found_in l) grew) where
   -- the functions of the level are those that they were
   level_was : (f : ℕ) → f < g.functions → found_in l f ≡ Some level → old f ≡ Some level
   level_was f h e = go (d.moved f h)
@@ -185,7 +195,7 @@ module _ (g : Program) (level n : ℕ) (old : ℕ → Option ℕ) (p : Levels g 
       go (inr m) = absurd (cc (m.0, e))
 
   -- node n leads to no function that has no depth yet
-  pub deepened_pass : leads_down g level (found_in l) n ≡ false → Deepened g level (n + 1) old (found_in l) grew
+  pub deepened_pass : leads_down g level (found_in l) n ≡ false → Deepening g level (n + 1) old (found_in l) grew
   deepened_pass h = record {
     moved = d.moved;
     passed = below_more (λ m. has_target (g.sort m) ≡ true → old (g.owner m) ≡ Some level → found_in l (g.target m) ≡ None → ⊥) n d.passed here;
@@ -227,7 +237,7 @@ module _ (g : Program) (level n : ℕ) (old : ℕ → Option ℕ) (p : Levels g 
         go (yes q) = rw q had_none
         go (no q) = sym (get_or-set_other l (g.target n) f (Some (level + 1)) None q) ∙ e
 
-    pub deepened_more : Deepened g level (n + 1) old (found_in new) true
+    pub deepened_more : Deepening g level (n + 1) old (found_in new) true
     deepened_more = record {
       moved = λ f b. go f b (ℕ_discrete f (g.target n));
       passed = below_more (λ m. has_target (g.sort m) ≡ true → old (g.owner m) ≡ Some level → found_in new (g.target m) ≡ None → ⊥) n
@@ -255,6 +265,19 @@ module _ (g : Program) (level n : ℕ) (old : ℕ → Option ℕ) (p : Levels g 
             (ap is_none new_at)
             (ap is_none had_none)
 
+-- where all nodes were looked at
+module _ (g : Program) (level : ℕ) (old : ℕ → Option ℕ) (formed : WellFormed g) where
+  pub deepened_all : (l : List (Option ℕ)) (grew : Bool) (o : Option (List (Option ℕ))) → Deepening g level g.nodes old (found_in l) grew → o ≡ then_some grew l → Deepened g level old o
+  deepened_all l true o d e = rw e d
+  deepened_all l false o d e = rw e (λ n h. ⊎_elim (λ t. absurd (never n h t)) (λ f. f) (either_way (leads_down g level old n)))
+    where
+      never : (n : ℕ) → n < g.nodes → leads_down g level old n ≡ true → ⊥
+      never n h t =
+          let v = and_true_left (has_target (g.sort n) && is_level level (old (g.owner n))) _ t in
+          d.passed n h (and_true_left (has_target (g.sort n)) _ v)
+          (level_told level _ (and_true_right (has_target (g.sort n)) _ v))
+          (d.quiet refl (g.target n) (formed.target_exists n h) ∙ none_told _ (and_true_right (has_target (g.sort n) && is_level level (old (g.owner n))) _ t))
+
 -- ---- level after level
 
 -- Where the search stands: it goes on from a level, and each level but the last has taken at least one function.
@@ -268,7 +291,7 @@ sounding_first g depth formed p = record {
   few = omega (arith, formed.few_functions, count_le (λ f. is_none (depth f)) g.functions);
 }
 
-pub sounding_next : (g : Program) (level : ℕ) (old new : ℕ → Option ℕ) → WellFormed g → Sounding g level old → Deepened g level g.nodes old new true → Sounding g (level + 1) new
+pub sounding_next : (g : Program) (level : ℕ) (old new : ℕ → Option ℕ) → WellFormed g → Sounding g level old → Deepening g level g.nodes old new true → Sounding g (level + 1) new
 sounding_next g level old new formed p d = record {
   levels_are = levels_next g level old p.levels_are formed new true d;
   few = omega (arith, p.few, d.falls);

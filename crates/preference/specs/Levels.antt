@@ -29,11 +29,16 @@ abbrev pub leads_down : Program → ℕ → (ℕ → Option ℕ) → ℕ → Boo
 leads_down g level depth n = has_target (g.sort n) && is_level level (depth (g.owner n)) && is_none (depth (g.target n))
 
 -- what the nodes below n have made of the depths, for one level more
-pub record Deepened (g : Program) (level n : ℕ) (old new : ℕ → Option ℕ) (grew : Bool) : Type 0 where
+pub record Deepening (g : Program) (level n : ℕ) (old new : ℕ → Option ℕ) (grew : Bool) : Type 0 where
   pub moved : (f : ℕ) → f < g.functions → (new f ≡ old f) ⊎ ((old f ≡ None) × (new f ≡ Some (level + 1)) × Away g f (suc level))
   pub passed : (m : ℕ) → m < n → has_target (g.sort m) ≡ true → old (g.owner m) ≡ Some level → new (g.target m) ≡ None → ⊥
   pub quiet : grew ≡ false → (f : ℕ) → f < g.functions → new f ≡ old f
   pub falls : unfound g new + cond grew 1 0 ≤ unfound g old
+
+-- what all nodes give: nothing where none leads down, and else a depth for more functions
+abbrev pub Deepened : Program → ℕ → (ℕ → Option ℕ) → Option (List (Option ℕ)) → Type 0
+Deepened g level old None = (n : ℕ) → n < g.nodes → leads_down g level old n ≡ false
+Deepened g level old (Some new) = Deepening g level g.nodes old (found_in new) true
 
 -- all depths are found
 pub record Sounded (g : Program) (depth : ℕ → Option ℕ) : Type 0 where

@@ -31,21 +31,21 @@ fn leads_down(program: &Program<'_>, depth: &[Option<u32>; 64], level: u32, n: u
         && depth[program.target(n)].is_none()
 }
 
-// Gives the next level to the functions that this one leads to, and says whether there was one. A flag beside what is written, since the
-// caller asks of it no more than whether to go on.
-fn deepen(program: &Program<'_>, depth: &mut [Option<u32>; 64], level: u32) -> bool
+// The depths with one level more: that of the functions that this one leads to, if it leads to any that have none yet.
+fn deepen(program: &Program<'_>, found: &[Option<u32>; 64], level: u32) -> Option<[Option<u32>; 64]>
     requires few { level ≤ 64 }
-    requires levels { Levels (program_of program.now.table.now) level (found_in depth.old) }
-    ensures { Deepened (program_of program.now.table.now) level program.now.of.nodes (found_in depth.old) (found_in depth.new) result }
+    requires levels { Levels (program_of program.now.table.now) level (found_in found.now) }
+    ensures { Deepened (program_of program.now.table.now) level (found_in found.now) result }
 {
+    let mut depth = *found;
     let mut grew = false;
     for n in 0..program.of.nodes {
-        if leads_down(program, depth, level, n) {
+        if leads_down(program, &depth, level, n) {
             depth[program.target(n)] = Some(level + 1);
             grew = true;
         }
     }
-    grew
+    grew.then_some(depth)
 }
 
 // Goes down level by level, until one leads to no other function: how many there are shows only then, so no `for` has them.
@@ -54,7 +54,8 @@ fn sound(program: &Program<'_>) -> [Option<u32>; 64]
 {
     let mut depth = start(program);
     let mut level = 0;
-    while deepen(program, &mut depth, level) {
+    while let Some(deeper) = deepen(program, &depth, level) {
+        depth = deeper;
         level += 1;
     }
     depth

@@ -16,20 +16,29 @@ use sizes::trials::{Prepared, find_from};
 use table::refusal::Refused;
 use tests::both_hold;
 
+// What a trial comes to: whether the choice is safe, and the turns over the rules that this took, of which nothing is promised.
+#[derive(Clone, Copy)]
+pub struct Judged {
+    pub safe: bool,
+    pub turns: u32,
+}
+
 // A trial for the search above: finds the sizes of a choice from zeros, or from those of a smaller one, and says whether it is safe. If it
-// is, its sizes take the place of the numbers started from; if not, these stay. The turns that this took are told.
-pub fn trial(prepared: &Prepared<'_>, choice: &[u8], sizes: &mut [u32], turns: &mut u32) -> bool
+// is, its sizes take the place of the numbers started from; if not, these stay.
+pub fn trial(prepared: &Prepared<'_>, choice: &[u8], sizes: &mut [u32]) -> Judged
     requires { PreparedFor prepared.now × StartsFor prepared.now (choice_of choice.now) sizes.old }
-    ensures { Tried prepared.now (choice_of choice.now) sizes.old sizes.new result }
+    ensures { Tried prepared.now (choice_of choice.now) sizes.old sizes.new result.safe }
 {
     let program = &prepared.known.program;
     let found = find_from(prepared, choice, sizes);
-    *turns = found.turns();
     let safe = both_hold(program, &found);
     if safe {
         write(program, &found, sizes);
     }
-    safe
+    Judged {
+        safe,
+        turns: found.turns(),
+    }
 }
 
 // The call for one choice: says whether it is safe, and writes its sizes.

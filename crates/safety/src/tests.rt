@@ -13,29 +13,21 @@ use solver::solution::Solution;
 fn posts_zero(program: &Program<'_>, sizes: &[Size; 2304]) -> bool
     ensures { Tells result (PostsBelow (program_of program.now.table.now) (at (map value_of sizes.now)) program.now.of.nodes) }
 {
-    for n in 0..program.of.nodes {
-        let post = u32::from(sizes[4 * program.target(n) + 1]);
-        if program.is_spawn(n) & (post != 0) {
-            return false;
-        }
-    }
-    true
+    (0..program.of.nodes).all(|n| {
+        let post = sizes[4 * program.target(n) + 1];
+        !program.is_spawn(n) || post.is_zero()
+    })
 }
 
 // Condition 2: whether no edge has unbounded sums on both sides.
 fn edges_bounded(program: &Program<'_>, after: &[Size; 512], before: &[Size; 512]) -> bool
     ensures { Tells result (EdgesBounded (program_of program.now.table.now) (at (map value_of after.now)) (at (map value_of before.now))) }
 {
-    for e in 0..program.of.edges {
-        let p = program.edge_from(e);
-        let n = program.edge_to(e);
-        let front = u32::from(after[p]);
-        let back = u32::from(before[n]);
-        if (front == 65536) & (back == 65536) {
-            return false;
-        }
-    }
-    true
+    (0..program.of.edges).all(|e| {
+        let front = after[program.edge_from(e)];
+        let back = before[program.edge_to(e)];
+        !(front.is_unbounded() && back.is_unbounded())
+    })
 }
 
 // Whether both conditions hold.

@@ -2,7 +2,7 @@
 use Rattle.std.proofs.Common.{◌≡◌, ℕ, suc, ◌+◌, ◌-◌, ◌<◌, ◌≤◌, Bool, true, false, cond, ◌⊎◌, List, length, map, set, take, drop, ◌++◌, sym, refl, ap, ◌∙◌, inl, inr, ⊎_elim, eq-or-lt_of_le, arith, get_or-set_other, length-set, get_or-set_same, eq-eqb, ne_eqb, eqb, eqb-true}
 use Rattle.std.proofs.lemmas.Bool.{eqb-false}
 use native.Mathlib.Decide.{ℕ_discrete}
-use Rattle.std.proofs.lemmas.List.{get_or-map, get_or-take}
+use Rattle.std.proofs.lemmas.List.{get_or-map}
 use Rattle.std.proofs.lemmas.List.Edits.{map_over_more}
 use Rattle.std.proofs.lemmas.Grind.{get_or_default_zero}
 use Rattle.table.specs.Program.{Program}
@@ -134,27 +134,24 @@ module _ {p : Prepared} where
 level_positive : (v : Verdict) → 1 ≤ level v
 level_positive v = grind arith
 
-module _ (p : Prepared) (spawns : List ℕ) {items : List ℕ} {count : ℕ} (o : InOrder (known_program p.known) count (at spawns)) (cut : items ≡ take count spawns) (long : length items ≡ count) (old : List ℕ) (fits : length old ≡ 512) (v : Verdict) (i : ℕ) (l : i < length items) where
-  here : at items i ≡ at spawns i
-  here = ap (λ (m : List ℕ). at m i) cut ∙ get_or-take count spawns i 0 (omega arith)
-
+module _ (p : Prepared) (spawns : List ℕ) (o : InOrder (known_program p.known) (length spawns) (at spawns)) (old : List ℕ) (fits : length old ≡ 512) (v : Verdict) (i : ℕ) (l : i < length spawns) where
   exists : at spawns i < (known_program p.known).nodes
-  exists = (o.spawns i (omega arith)).exists
+  exists = (o.spawns i l).exists
 
   -- it waits for the verdict: a trial is due,
-  module _ {s : List ℕ} {x : ℕ} (byte : x ≡ level v) (is_next : eqb (choice_of old (at items i)) (level v - 1) ≡ true) (holds : Holds p (choice_of old) s) where
+  module _ {s : List ℕ} {x : ℕ} (byte : x ≡ level v) (is_next : eqb (choice_of old (at spawns i)) (level v - 1) ≡ true) (holds : Holds p (choice_of old) s) where
     next : suc (choice_of old (at spawns i)) ≡ level v
-    next = omega (arith, eqb-true _ _ is_next, ap (choice_of old) here, level_positive v)
+    next = omega (arith, eqb-true _ _ is_next, level_positive v)
 
     place : at spawns i < length old
     place = omega (arith, exists, few p)
 
-    pub next_starts : StartsFor p (choice_of (set old (at items i) x)) s
-    next_starts = rw (here, byte) (starts_one old (at spawns i) (level v) place (omega (arith, next)) holds)
+    pub next_starts : StartsFor p (choice_of (set old (at spawns i) x)) s
+    next_starts = rw byte (starts_one old (at spawns i) (level v) place (omega (arith, next)) holds)
 
     -- and it takes the walk one spawn further
-    pub next_tried : {from : ℕ → ℕ} → Walked (known_program p.known) (level v) i (at spawns) from (choice_of old) → {new t : List ℕ} {r : Bool} → Tried p (choice_of (set old (at items i) x)) s t r → new ≡ cond r (set old (at items i) x) old → Walked (known_program p.known) (level v) (i + 1) (at spawns) from (choice_of new) × Holds p (choice_of new) t × (length new ≡ 512)
-    next_tried {from} w {new} {t} {r} tried taken = (go (rw (here, byte) at tried) (rw (here, byte) at taken), tried_holds old _ tried taken holds, rw taken (lengths r))
+    pub next_tried : {from : ℕ → ℕ} → Walked (known_program p.known) (level v) i (at spawns) from (choice_of old) → {new t : List ℕ} {r : Bool} → Tried p (choice_of (set old (at spawns i) x)) s t r → new ≡ cond r (set old (at spawns i) x) old → Walked (known_program p.known) (level v) (i + 1) (at spawns) from (choice_of new) × Holds p (choice_of new) t × (length new ≡ 512)
+    next_tried {from} w {new} {t} {r} tried taken = (go (rw byte at tried) (rw byte at taken), tried_holds old _ tried taken holds, rw taken (lengths r))
       where
         g : Program
         g = known_program p.known
@@ -169,13 +166,13 @@ module _ (p : Prepared) (spawns : List ℕ) {items : List ℕ} {count : ℕ} (o 
         go (adopted y safe z) q = rw (q, y) (walked_raised g (level v) (at spawns) from i (choice_of old) exists w next (choice_of up) (get_or-set_same old (at spawns i) (level v) 0 place) others safe)
         go (rejected y none z) q = rw (q, y) (walked_kept g (level v) (at spawns) from i (choice_of old) exists w next (choice_of up) (get_or-set_same old (at spawns i) (level v) 0 place) others none)
 
-        lengths : (b : Bool) → length (cond b (set old (at items i) x) old) ≡ 512
-        lengths true = length-set old (at items i) x ∙ fits
+        lengths : (b : Bool) → length (cond b (set old (at spawns i) x) old) ≡ 512
+        lengths true = length-set old (at spawns i) x ∙ fits
         lengths false = fits
 
   -- it does not: it stays
-  pub next_past : eqb (choice_of old (at items i)) (level v - 1) ≡ false → {from : ℕ → ℕ} → Walked (known_program p.known) (level v) i (at spawns) from (choice_of old) → Walked (known_program p.known) (level v) (i + 1) (at spawns) from (choice_of old)
-  next_past d {from} w = walked_past (known_program p.known) (level v) (at spawns) from i (choice_of old) exists w (λ q. eqb-false _ _ d (omega (arith, ap (choice_of old) here)))
+  pub next_past : eqb (choice_of old (at spawns i)) (level v - 1) ≡ false → {from : ℕ → ℕ} → Walked (known_program p.known) (level v) i (at spawns) from (choice_of old) → Walked (known_program p.known) (level v) (i + 1) (at spawns) from (choice_of old)
+  next_past d {from} w = walked_past (known_program p.known) (level v) (at spawns) from i (choice_of old) exists w (λ q. eqb-false _ _ d (omega arith))
 
 -- one byte more is raised
 pub raised_more : (k : ℕ) (old new : List ℕ) (i x : ℕ) → i < length old → i < length new → new ≡ map (raised_to k) (take i old) ++ drop i old → x ≡ raised_to k (choice_of new i) → set new i x ≡ map (raised_to k) (take (i + 1) old) ++ drop (i + 1) old

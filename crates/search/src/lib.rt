@@ -2,6 +2,7 @@
 #![tactic(auto)]
 
 mod found;
+mod problem;
 mod trials;
 mod verdict;
 mod walks;
@@ -12,6 +13,7 @@ ghost use Rattle.search.specs.Walk.{Searched};
 
 pub use found::Found;
 use preference::order::in_order;
+use problem::Problem;
 use sizes::trials::Prepared;
 use verdict::Verdict;
 pub use work::Work;
@@ -23,8 +25,12 @@ pub fn find(prepared: &Prepared<'_>) -> Found
 {
     let program = &prepared.known.program;
     let order = in_order(program);
+    let problem = Problem {
+        prepared,
+        order: order.as_slice(),
+    };
     let mut found = Found::unmerged(program);
-    found.merge(prepared, &order);
-    found.walk(prepared, &order, Verdict::Unguarded);
+    found.merge(&problem);
+    found.walk(&problem, Verdict::Unguarded);
     found
 }

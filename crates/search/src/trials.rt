@@ -1,15 +1,16 @@
 // Trials of choices. They start from the sizes that there are.
 ghost use Rattle.std.specs.Prelude.{◌≡◌, ◌≤◌, ◌<◌, true, false, cond, map, length, slice_set, replicate};
 ghost use Rattle.sizes.specs.Call.{choice_of};
-ghost use Rattle.sizes.specs.Trials.{known_program, PreparedFor, StartsFor, Holds};
+ghost use Rattle.sizes.specs.Trials.{PreparedFor, StartsFor, Holds};
 ghost use Rattle.safety.specs.Safety.{Safe};
 ghost use Rattle.safety.specs.Trial.{Tried};
 ghost use Rattle.search.specs.Verdict.{level};
 ghost use Rattle.search.specs.Walk.{raised_to};
+ghost use Rattle.search.specs.Problem.{program_in};
 
 use crate::Found;
+use crate::problem::Problem;
 use crate::verdict::Verdict;
-use preference::Order;
 use safety::trial;
 use sizes::find::write;
 use sizes::trials::{Prepared, find_from};
@@ -33,13 +34,12 @@ impl Found {
         ensures tried { Tried prepared.now (choice_of choice.now) self.old.sizes self.new.sizes result }
         ensures taken { self.new.verdicts ≡ cond result choice.now self.old.verdicts }
     {
-        let mut turns = 0;
-        let safe = trial(prepared, choice, &mut self.sizes, &mut turns);
-        self.work.add(1, turns);
-        if safe {
+        let judged = trial(prepared, choice, &mut self.sizes);
+        self.work.add(1, judged.turns);
+        if judged.safe {
             self.verdicts = *choice;
         }
-        safe
+        judged.safe
     }
 
     // Finds the sizes of the choice there is, from zeros.
@@ -56,32 +56,27 @@ impl Found {
 
     // Whether a trial of all spawns at once that wait for this verdict is due: at least two do. Where all spawns but one wait, a further
     // trial could be one too many: there are at most two for each spawn.
-    fn is_due(&self, prepared: &Prepared<'_>, order: &Order, verdict: Verdict) -> bool {
-        let verdicts = &self.verdicts[..prepared.known.program.of.nodes];
+    fn is_due(&self, problem: &Problem<'_>, verdict: Verdict) -> bool {
+        let verdicts = &self.verdicts[..problem.prepared.known.program.of.nodes];
         let wait = verdicts
             .iter()
             .filter(|byte| verdict.is_next(**byte))
             .count();
-        2 <= wait && wait + 1 != order.count
+        2 <= wait && wait + 1 != problem.order.len()
     }
 
     // A trial of all at once, where it is due: gives each spawn that waits for this verdict the verdict, if the choice stays safe, and says
     // so.
-    pub(crate) fn all_at_once(
-        &mut self,
-        prepared: &Prepared<'_>,
-        order: &Order,
-        verdict: Verdict,
-    ) -> bool
-        requires prepared_for { PreparedFor prepared.now }
-        requires starts_for { StartsFor prepared.now (choice_of (map (raised_to (level verdict)) self.old.verdicts)) self.old.sizes }
-        ensures all { result ≡ true → (self.new.verdicts ≡ map (raised_to (level verdict)) self.old.verdicts) × Safe (known_program prepared.now.known) (choice_of self.new.verdicts) × Holds prepared.now (choice_of self.new.verdicts) self.new.sizes }
+    pub(crate) fn all_at_once(&mut self, problem: &Problem<'_>, verdict: Verdict) -> bool
+        requires prepared_for { PreparedFor problem.now.prepared.now }
+        requires starts_for { StartsFor problem.now.prepared.now (choice_of (map (raised_to (level verdict)) self.old.verdicts)) self.old.sizes }
+        ensures all { result ≡ true → (self.new.verdicts ≡ map (raised_to (level verdict)) self.old.verdicts) × Safe (program_in problem.now) (choice_of self.new.verdicts) × Holds problem.now.prepared.now (choice_of self.new.verdicts) self.new.sizes }
         ensures none { result ≡ false → (self.new.verdicts ≡ self.old.verdicts) × (self.new.sizes ≡ self.old.sizes) }
     {
-        if !self.is_due(prepared, order, verdict) {
+        if !self.is_due(problem, verdict) {
             return false;
         }
         let larger = raised(&self.verdicts, verdict);
-        self.attempt(prepared, &larger)
+        self.attempt(problem.prepared, &larger)
     }
 }

@@ -4,8 +4,8 @@ use Rattle.preference.specs.Levels.{found_in, unfound}
 use Rattle.preference.proofs.Levels.{Sounding}
 use Rattle.preference.proofs.depth.sound.Given as goal
 
-abbrev pub invariant-loop-level : goal.invariant-loop-level
-invariant-loop-level l = Sounding (program_of l.program.table.now) l.level (found_in l.depth)
+abbrev pub invariant-loop-deeper : goal.invariant-loop-deeper
+invariant-loop-deeper l = Sounding (program_of l.program.table.now) l.level (found_in l.depth)
 
-abbrev pub decreases-loop-level : goal.decreases-loop-level
-decreases-loop-level l = unfound (program_of l.program.table.now) (found_in l.depth)
+abbrev pub decreases-loop-deeper : goal.decreases-loop-deeper
+decreases-loop-deeper l = unfound (program_of l.program.table.now) (found_in l.depth)
