@@ -3,12 +3,11 @@ use Prim.Native.Nat.{ℕ, zero, suc, ◌+◌, ◌<◌, ◌≤◌, max}
 use mathlib.Core.Path.{◌≡◌, refl, sym, ap, ◌∙◌, subst}
 use mathlib.Core.List.{List, [], ◌∷◌}
 use mathlib.Core.Logic.{inl, inr}
-use lib.ListN.{length, set}
+use lib.ListN.{length, get_or, set}
 use lib.Seq.{get_or-set_same, get_or-set_other}
 use native.Mathlib.Omega.{arith}
 use native.Mathlib.Decide.{ℕ_discrete, dec_le}
 use Rattle.size.specs.Size.{unbounded, cap}
-use Rattle.size.specs.Numbers.{at}
 use Rattle.solver.specs.System.{Form, sum_of, gives, Derives, none, rule}
 use Rattle.solver.specs.Words.{entry_count}
 use Rattle.solver.specs.Causes.{Lead, Ok, Chain, met, via, uncaused, Put, Risen, rises, leaps}
@@ -111,8 +110,8 @@ chain_low (via h c) = h
 
 -- ---- values and causes, changed at one entry
 
-pub put_set : (l : List ℕ) (x c : ℕ) → x < length l → Put (at l) x c (at (set l x c))
-put_set l x c h = record { there = get_or-set_same l x c 0 h; other = λ y n. get_or-set_other l x y c 0 n }
+pub put_set : {A : Type 0} (f : A → ℕ) (d : A) (l : List A) (x : ℕ) (a : A) → x < length l → Put (λ y. f (get_or l y d)) x (f a) (λ y. f (get_or (set l x a) y d))
+put_set f d l x a h = record { there = ap f (get_or-set_same l x a d h); other = λ y n. ap f (get_or-set_other l x y a d n) }
 
 pub put_below : {v w : ℕ → ℕ} {x t : ℕ} → Put v x t w → v x ≤ t → Below v w
 put_below {v} {w} {x} {t} p h y = go (ℕ_discrete y x)

@@ -1,11 +1,12 @@
 -- A turn over the rules, rule by rule. Helps proofs only.
-use Rattle.std.specs.Prelude.{ℕ, zero, suc, ◌+◌, ◌-◌, ◌<◌, ◌≤◌, min, ◌≡◌, Bool, true, false, List, [], ◌∷◌, ◌⊎◌, Option, Some, None, unwrap_or, length}
+use Rattle.std.specs.Prelude.{ℕ, zero, suc, ◌+◌, ◌-◌, ◌<◌, ◌≤◌, min, ◌≡◌, Bool, true, false, List, [], ◌∷◌, ◌⊎◌, Option, Some, None, unwrap_or, length, get_or}
 use Rattle.size.specs.Size.{unbounded}
 use Rattle.size.specs.Numbers.{at}
 use Rattle.solver.specs.System.{Form, gives}
 use Rattle.solver.specs.Words.{entry_count, head_of, word_form, item_form}
-use Rattle.solver.specs.Causes.{Ok, Put, Risen}
+use Rattle.solver.specs.Causes.{Ok, uncaused, Put, Risen}
 use Rattle.solver.specs.declared.causes.Causes.{Causes}
+use Rattle.solver.specs.declared.causes.Rise.{Rise}
 use Rattle.solver.specs.declared.rule.Rule.{Rule}
 
 -- What a rule of the code says: the same as its word.
@@ -21,9 +22,16 @@ abbrev pub AmongSizes : Option ℕ → Type 0
 AmongSizes (Some z) = z < 2304
 AmongSizes None = Unit {0}
 
+-- what is said of an entry that never rose
+abbrev pub never : Rise
+never = record { cause = None; stamp = 0 }
+
+abbrev pub cause_of : Rise → ℕ
+cause_of r = unwrap_or r.cause uncaused
+
 -- the cause of each entry
 abbrev pub cause_at : Causes → ℕ → ℕ
-cause_at c = at c.causes
+cause_at c x = cause_of (get_or c.rises x never)
 
 -- the second entry of a rule's body, or the first again
 abbrev pub second_of : Rule → ℕ
