@@ -2,12 +2,13 @@
 use Prim.Native.Nat.{ℕ, zero, suc, ◌+◌, ◌-◌, ◌*◌, ◌/◌, ◌%◌, ◌<◌, ◌≤◌}
 use mathlib.Core.Path.{◌≡◌, refl, sym, ap, ap₂, ◌∙◌, subst}
 use mathlib.Core.Bool.{true}
-use mathlib.Core.List.{List}
+use mathlib.Core.List.{List, [], ◌∷◌, ◌++◌}
 use mathlib.Core.Logic.{◌⊎◌, inl, inr}
 use native.Mathlib.Omega.{arith}
 use native.Mathlib.Decide.{ℕ_discrete, dec_lt}
-use lib.ListN.{length, set}
-use lib.Seq.{get_or-set_same, get_or-set_other}
+use lib.ListN.{length, get_or-append}
+use lib.Seq.{get_or-append_seam}
+use Rattle.std.proofs.lemmas.List.{length-append}
 use Rattle.std.specs.Prelude.{None, Some}
 use Rattle.table.specs.Record.{edge_from, edge_to}
 use Rattle.table.specs.Program.{program_of}
@@ -22,15 +23,12 @@ use Rattle.rule_order.specs.declared.Orders.{Orders}
 use Rattle.size.specs.Numbers.{at}
 use Rattle.rules.specs.System.{RuleOf, steps, takes, step_form, total_edge_form, target_form, form_of, start, step_on, end, total_node, total_edge, target_of}
 use Rattle.listed.specs.Listed.{given}
-use Rattle.rules.specs.Numbered.{count_of, on_at, form_at, Means, Gives}
-use Rattle.listed.specs.Listed.{node_kind, node_number, edge_kind, function_kind, places_of, kind_at, number_at, place_at, Progress, done, up_to, blocks, on_in, form_in, Says, Placed, Listed, Listing, Lists}
-use Rattle.solver.specs.Words.{rule_of}
-use Rattle.solver.specs.Words.{Named}
+use Rattle.rules.specs.Numbered.{count_of, on_at, form_at}
+use Rattle.listed.specs.Listed.{node_kind, node_number, edge_kind, function_kind, places_of, kind_at, number_at, place_at, Progress, done, up_to, blocks, on_in, form_in, Says, WordFor, Placed, Listed, Listing, Lists}
 use Rattle.sync.specs.declared.Known.{Known}
 use Rattle.listed.specs.declared.source.Source.{Source}
 use Rattle.listed.specs.declared.list.Group.{Group}
 use Rattle.listed.specs.declared.list.Group.TheVariants.{Node, Edge, Back, Function}
-use Rattle.solver.specs.declared.rule.Rule.{Rule}
 use Rattle.rules.specs.declared.kinds.Kind.{Kind}
 use Rattle.rules.specs.declared.kinds.Kind.TheVariants.{Target, Start, Step, End, TotalNode, TotalEdge}
 use Rattle.rules.specs.declared.sums.Sum.TheVariants.{After, Before, Through}
@@ -131,47 +129,38 @@ module _ (c : Counts) (orders : Orders) (o : AllOrdered c orders) where
 
 -- ---- one word more
 
-module _ (x : Source) (rules : List ℕ) (count w : ℕ) (room : count < length rules) where
-  kept_at : (j : ℕ) → j < count → at (set rules count w) j ≡ at rules j
-  kept_at j h = get_or-set_other rules count j w 0 (λ e. omega (arith, e))
-
-  placed_kept : (g : Group) (i : ℕ) → Placed x rules count g i → Placed x (set rules count w) (count + 1) g i
+module _ (x : Source) (rules : List ℕ) (w : ℕ) where
+  placed_kept : (g : Group) (i : ℕ) → Placed x rules g i → Placed x (rules ++ w ∷ []) g i
   placed_kept g i p on =
       let q = p on in
-      (q.0, omega (arith, q.1), rw (kept_at q.0 q.1) q.2)
-
-  new_at : at (set rules count w) count ≡ w
-  new_at = get_or-set_same rules count w 0 room
+      (q.0, omega (arith, q.1, length-append rules (w ∷ [])), rw (get_or-append rules (w ∷ []) 0 q.0 q.1) q.2)
 
   module _ (k : Kind) (i : ℕ) (low : i < count_of x.known.now.program.of k) (on : on_in x k i ≡ true) (says : Says w (form_in x k i)) where
-    listed_add : {p : Progress} → Listed x p rules count → Listed x p (set rules count w) (count + 1)
-    listed_add {p} d = record { each = λ j h. go j h (ℕ_discrete j count); all = λ g i h. placed_kept g i (d.all g i h) }
+    listed_add : {p : Progress} → Listed x p rules → Listed x p (rules ++ w ∷ [])
+    listed_add {p} d = record { each = λ j h. go j (omega (arith, h, length-append rules (w ∷ []))) (ℕ_discrete j (length rules)); all = λ g i h. placed_kept g i (d.all g i h) }
       where
-        go : (j : ℕ) → j < count + 1 → Dec (j ≡ count) → (k : Kind) × (i : ℕ) × (i < count_of x.known.now.program.of k) × (on_in x k i ≡ true) × Says (at (set rules count w) j) (form_in x k i)
-        go j h (yes e) = (k, i, low, on, rw (e, new_at) says)
+        go : (j : ℕ) → j < length rules + 1 → Dec (j ≡ length rules) → (k : Kind) × (i : ℕ) × (i < count_of x.known.now.program.of k) × (on_in x k i ≡ true) × Says (at (rules ++ w ∷ []) j) (form_in x k i)
+        go j h (yes e) = (k, i, low, on, rw (e, get_or-append_seam rules w [] 0) says)
         go j h (no e) =
-            let l : j < count = omega (arith, e) in
+            let l : j < length rules = omega (arith, e) in
             let q = d.each j l in
-            (q.0, q.1, q.2, q.3, rw (kept_at j l) q.4)
+            (q.0, q.1, q.2, q.3, rw (get_or-append rules (w ∷ []) 0 j l) q.4)
 
-  pub listing_add : {p : Progress} {g : Group} {lo hi q i : ℕ} {r : Rule} → Listing x p g lo hi q rules count → i ≡ place_at g lo hi q → i < places_of x.known.now.program.of g → Gives (on_in x (kind_at g i) (number_at x.orders.now g i)) (form_in x (kind_at g i) (number_at x.orders.now g i)) (Some r) → rule_of w ≡ r → Listing x p g lo hi (q + 1) (set rules count w) (count + 1)
-  listing_add {p} {g} {lo} {hi} {q} {i} {r} d i-is low gives w-is = record {
-    listed = listed_add (kind_at g i) (number_at x.orders.now g i) (number_low x.known.now.program.of x.orders.now x.all_within g i low) gives.0 says d.listed;
+  pub listing_add : {p : Progress} {g : Group} {lo hi q i : ℕ} → Listing x p g lo hi q rules → i ≡ place_at g lo hi q → i < places_of x.known.now.program.of g → WordFor x g i (Some w) → Listing x p g lo hi (q + 1) (rules ++ w ∷ [])
+  listing_add {p} {g} {lo} {hi} {q} {i} d i-is low gives = record {
+    listed = listed_add (kind_at g i) (number_at x.orders.now g i) (number_low x.known.now.program.of x.orders.now x.all_within g i low) gives.0 gives.1 d.listed;
     some = λ m h. go m h (ℕ_discrete m q);
   }
     where
-      says : Says w (form_in x (kind_at g i) (number_at x.orders.now g i))
-      says = subst (Means (form_in x (kind_at g i) (number_at x.orders.now g i))) (sym w-is) gives.1
-
-      go : (m : ℕ) → m < q + 1 → Dec (m ≡ q) → Placed x (set rules count w) (count + 1) g (place_at g lo hi m)
-      go m h (yes e) = rw (e, ← i-is) (λ on. (count, omega arith, rw new_at says))
+      go : (m : ℕ) → m < q + 1 → Dec (m ≡ q) → Placed x (rules ++ w ∷ []) g (place_at g lo hi m)
+      go m h (yes e) = rw (e, ← i-is) (λ on. (length rules, omega (arith, length-append rules (w ∷ [])), rw (get_or-append_seam rules w [] 0) gives.1))
       go m h (no e) = placed_kept g (place_at g lo hi m) (d.some m (omega (arith, e)))
 
-module _ (x : Source) {rules : List ℕ} {count : ℕ} {p : Progress} {g : Group} {lo hi : ℕ} where
-  pub listing_skip : {q i : ℕ} → Listing x p g lo hi q rules count → i ≡ place_at g lo hi q → Gives (on_in x (kind_at g i) (number_at x.orders.now g i)) (form_in x (kind_at g i) (number_at x.orders.now g i)) None → Listing x p g lo hi (q + 1) rules count
+module _ (x : Source) {rules : List ℕ} {p : Progress} {g : Group} {lo hi : ℕ} where
+  pub listing_skip : {q i : ℕ} → Listing x p g lo hi q rules → i ≡ place_at g lo hi q → WordFor x g i None → Listing x p g lo hi (q + 1) rules
   listing_skip {q} {i} d i-is off = record { listed = d.listed; some = λ m h. go m h (ℕ_discrete m q) }
     where
-      go : (m : ℕ) → m < q + 1 → Dec (m ≡ q) → Placed x rules count g (place_at g lo hi m)
+      go : (m : ℕ) → m < q + 1 → Dec (m ≡ q) → Placed x rules g (place_at g lo hi m)
       go m h (yes e) = rw (e, ← i-is) (λ on. not_both _ on off)
       go m h (no e) = d.some m (omega (arith, e))
 
@@ -193,24 +182,24 @@ within_up_to p Function hi Edge i l = inl l
 within_up_to p Function hi Back i l = inl l
 within_up_to p Function hi Function i l = inr (refl, l)
 
-pub listing_last : (x : Source) {rules : List ℕ} {count : ℕ} {p : Progress} {g : Group} {lo hi q : ℕ} → Listing x p g lo hi q rules count → done p g ≡ lo → hi - lo ≤ q → Listed x (up_to p g hi) rules count
-listing_last x {rules} {count} {p} {g} {lo} {hi} {q} d e l = record { each = d.listed.each; all = λ h i b. go h i (within_up_to p g hi h i b) }
+pub listing_last : (x : Source) {rules : List ℕ} {p : Progress} {g : Group} {lo hi q : ℕ} → Listing x p g lo hi q rules → done p g ≡ lo → hi - lo ≤ q → Listed x (up_to p g hi) rules
+listing_last x {rules} {p} {g} {lo} {hi} {q} d e l = record { each = d.listed.each; all = λ h i b. go h i (within_up_to p g hi h i b) }
   where
-    late : (i : ℕ) → i < hi → Dec (i < lo) → Placed x rules count g i
+    late : (i : ℕ) → i < hi → Dec (i < lo) → Placed x rules g i
     late i b (yes s) = d.listed.all g i (omega (arith, e))
     late i b (no s) =
         let t = place_turn g lo hi i (omega arith) b in
-        subst (Placed x rules count g) t.2 (d.some t.0 (omega (arith, t.1)))
+        subst (Placed x rules g) t.2 (d.some t.0 (omega (arith, t.1)))
 
-    go : (h : Group) (i : ℕ) → (i < done p h) ⊎ ((h ≡ g) × (i < hi)) → Placed x rules count h i
+    go : (h : Group) (i : ℕ) → (i < done p h) ⊎ ((h ≡ g) × (i < hi)) → Placed x rules h i
     go h i (inl b) = d.listed.all h i b
-    go h i (inr b) = subst (λ (m : Group). Placed x rules count m i) (sym b.0) (late i b.1 (dec_lt i lo))
+    go h i (inr b) = subst (λ (m : Group). Placed x rules m i) (sym b.0) (late i b.1 (dec_lt i lo))
 
 -- nothing is listed at first
-pub listed_none : (x : Source) (rules : List ℕ) → Listed x (blocks 0 0 0) rules 0
-listed_none x rules = record { each = λ j h. absurd (omega arith); all = λ g i h. none g i h }
+pub listed_none : (x : Source) {rules : List ℕ} → rules ≡ [] → Listed x (blocks 0 0 0) rules
+listed_none x {rules} e = record { each = λ j h. absurd (omega (arith, ap length e)); all = λ g i h. none g i h }
   where
-    none : (g : Group) (i : ℕ) → i < done (blocks 0 0 0) g → Placed x rules 0 g i
+    none : (g : Group) (i : ℕ) → i < done (blocks 0 0 0) g → Placed x rules g i
     none Node i h = absurd (omega arith)
     none Edge i h = absurd (omega arith)
     none Back i h = absurd (omega arith)
@@ -249,14 +238,14 @@ module _ (choice : List ℕ) (known : Known) where
       let c : i % 4 ≡ k = omega arith in
       (Target, i, omega arith, ap₂ (takes (program_of t) (at choice)) a c ∙ b, ap₂ (target_form (program_of t)) a c)
 
-module _ (x : Source) (o : AllOrdered x.known.now.program.of x.orders.now) {rules : List ℕ} {count : ℕ} (d : Listed x (blocks x.known.now.program.of.nodes x.known.now.program.of.edges x.known.now.program.of.functions) rules count) where
-  all_done : (g : Group) (i : ℕ) → i < places_of x.known.now.program.of g → Placed x rules count g i
+module _ (x : Source) (o : AllOrdered x.known.now.program.of x.orders.now) {rules : List ℕ} (d : Listed x (blocks x.known.now.program.of.nodes x.known.now.program.of.edges x.known.now.program.of.functions) rules) where
+  all_done : (g : Group) (i : ℕ) → i < places_of x.known.now.program.of g → Placed x rules g i
   all_done Node i h = d.all Node i h
   all_done Edge i h = d.all Edge i h
   all_done Back i h = d.all Back i h
   all_done Function i h = d.all Function i h
 
-  pub all_listed : Lists (given x.choice.now x.known.now) rules count
+  pub all_listed : Lists (given x.choice.now x.known.now) rules
   all_listed = record {
     each = λ j h. let q = d.each j h in let r = rule_at x.choice.now x.known.now q.0 q.1 q.2 q.3 in (r.0, rw r.1 q.4);
     all = λ r.
@@ -265,10 +254,4 @@ module _ (x : Source) (o : AllOrdered x.known.now.program.of x.orders.now) {rule
         let on : on_in x (kind_at p.0 p.1) (number_at x.orders.now p.0 p.1) ≡ true = ap₂ (on_in x) p.3 p.4 ∙ n.3 in
         let q = all_done p.0 p.1 p.2 on in
         (q.0, q.1, subst (Says (at rules q.0)) (ap₂ (form_in x) p.3 p.4 ∙ n.4) q.2);
-  }
-
-  pub all_named : Named rules count
-  all_named = record {
-    heads = λ j h. (d.each j h).4.head_low;
-    parts = λ j h. (d.each j h).4.part_low;
   }

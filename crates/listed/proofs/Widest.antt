@@ -2,11 +2,12 @@
 use Prim.Native.Nat.{ℕ, ◌+◌, ◌-◌, ◌*◌, ◌/◌, ◌%◌, ◌<◌, ◌≤◌}
 use mathlib.Core.Path.{◌≡◌, refl, sym, ap, ap₂, ◌∙◌, subst}
 use mathlib.Core.Bool.{Bool, true, false}
-use mathlib.Core.List.{List}
+use mathlib.Core.List.{List, [], ◌∷◌, ◌++◌}
 use native.Mathlib.Omega.{arith}
 use native.Mathlib.Decide.{ℕ_discrete}
-use lib.ListN.{length, set, take, get_or-replicate}
-use lib.Seq.{length-take-le, get_or-take, get_or-set_same, get_or-set_other}
+use lib.ListN.{length, get_or-append, get_or-replicate}
+use lib.Seq.{get_or-append_seam}
+use Rattle.std.proofs.lemmas.List.{length-append}
 use borrow.Author.Tests.{lt-ltb, le-ltb}
 use Rattle.table.specs.Program.{Program, program_of}
 use Rattle.program.specs.declared.Program.{Program as Read}
@@ -17,8 +18,8 @@ use Rattle.rules.specs.Choice.{unguarded}
 use Rattle.rules.specs.Rules.{total, through}
 use Rattle.rules.specs.System.{Form, RuleOf, kind_for, to, takes, target_form, form_of, start, step_on, end, total_node, total_edge, target_of}
 use Rattle.rules.specs.Entries.{offset}
-use Rattle.listed.specs.Listed.{given, everywhere, in_force, Says, Lists, Widest}
-use Rattle.solver.specs.Words.{head_of, Named}
+use Rattle.listed.specs.Listed.{given, everywhere, in_force, Says, RulesFor}
+use Rattle.solver.specs.Words.{head_of}
 use Rattle.sync.specs.declared.Known.{Known}
 use Rattle.rules.specs.declared.sums.Sum.{Sum}
 use Rattle.rules.specs.declared.sums.Sum.TheVariants.{After, Before, Through}
@@ -124,89 +125,74 @@ module _ (choice : List ℕ) (known : Known) where
 
 -- ---- the words of a list that pass a test, one after another
 
--- the first words are those of the first i that pass
-pub record Kept (test : ℕ → Bool) (all : List ℕ) (i : ℕ) (rules : List ℕ) (count : ℕ) : Type 0 where
-  pub few : count ≤ i
-  pub each : (m : ℕ) → m < count → (j : ℕ) × (j < i) × (test (at all j) ≡ true) × (at rules m ≡ at all j)
-  pub every : (j : ℕ) → j < i → test (at all j) ≡ true → (m : ℕ) × (m < count) × (at rules m ≡ at all j)
+-- the words are those of the first i that pass
+pub record Kept (test : ℕ → Bool) (all : List ℕ) (i : ℕ) (rules : List ℕ) : Type 0 where
+  pub few : length rules ≤ i
+  pub each : (m : ℕ) → m < length rules → (j : ℕ) × (j < i) × (test (at all j) ≡ true) × (at rules m ≡ at all j)
+  pub every : (j : ℕ) → j < i → test (at all j) ≡ true → (m : ℕ) × (m < length rules) × (at rules m ≡ at all j)
 
-pub kept_none : (test : ℕ → Bool) (all rules : List ℕ) → Kept test all 0 rules 0
-kept_none test all rules = record { few = omega arith; each = λ m h. absurd (omega arith); every = λ j h b. absurd (omega arith) }
+pub kept_none : (test : ℕ → Bool) (all : List ℕ) {rules : List ℕ} → rules ≡ [] → Kept test all 0 rules
+kept_none test all {rules} e = record { few = omega (arith, ap length e); each = λ m h. absurd (omega (arith, ap length e)); every = λ j h b. absurd (omega arith) }
 
-module _ {test : ℕ → Bool} {all : List ℕ} {i : ℕ} {rules : List ℕ} {count : ℕ} (d : Kept test all i rules count) where
-  pub kept_skip : test (at all i) ≡ false → Kept test all (i + 1) rules count
+module _ {test : ℕ → Bool} {all : List ℕ} {i : ℕ} {rules : List ℕ} (d : Kept test all i rules) where
+  pub kept_skip : test (at all i) ≡ false → Kept test all (i + 1) rules
   kept_skip off = record {
     few = omega (arith, d.few);
     each = λ m h. let q = d.each m h in (q.0, omega (arith, q.1), q.2, q.3);
     every = λ j h b. go j h b (ℕ_discrete j i);
   }
     where
-      go : (j : ℕ) → j < i + 1 → test (at all j) ≡ true → Dec (j ≡ i) → (m : ℕ) × (m < count) × (at rules m ≡ at all j)
+      go : (j : ℕ) → j < i + 1 → test (at all j) ≡ true → Dec (j ≡ i) → (m : ℕ) × (m < length rules) × (at rules m ≡ at all j)
       go j h b (yes e) = not_both _ b (rw e off)
       go j h b (no n) = d.every j (omega (arith, n)) b
 
-  module _ (room : count < length rules) (on : test (at all i) ≡ true) where
-    new_at : at (set rules count (at all i)) count ≡ at all i
-    new_at = get_or-set_same rules count (at all i) 0 room
+  module _ (on : test (at all i) ≡ true) where
+    abbrev more : List ℕ
+    more = rules ++ at all i ∷ []
 
-    old_at : (m : ℕ) → m < count → at (set rules count (at all i)) m ≡ at rules m
-    old_at m h = get_or-set_other rules count m (at all i) 0 (λ e. omega (arith, e))
+    long : length more ≡ length rules + 1
+    long = length-append rules (at all i ∷ [])
 
-    pub kept_add : Kept test all (i + 1) (set rules count (at all i)) (count + 1)
+    new_at : at more (length rules) ≡ at all i
+    new_at = get_or-append_seam rules (at all i) [] 0
+
+    old_at : (m : ℕ) → m < length rules → at more m ≡ at rules m
+    old_at m h = get_or-append rules (at all i ∷ []) 0 m h
+
+    pub kept_add : Kept test all (i + 1) more
     kept_add = record {
-      few = omega (arith, d.few);
-      each = λ m h. each m h (ℕ_discrete m count);
+      few = omega (arith, d.few, long);
+      each = λ m h. each m (omega (arith, h, long)) (ℕ_discrete m (length rules));
       every = λ j h b. every j h b (ℕ_discrete j i);
     }
       where
-        each : (m : ℕ) → m < count + 1 → Dec (m ≡ count) → (j : ℕ) × (j < i + 1) × (test (at all j) ≡ true) × (at (set rules count (at all i)) m ≡ at all j)
-        each m h (yes e) = (i, omega arith, on, ap (at (set rules count (at all i))) e ∙ new_at)
+        each : (m : ℕ) → m < length rules + 1 → Dec (m ≡ length rules) → (j : ℕ) × (j < i + 1) × (test (at all j) ≡ true) × (at more m ≡ at all j)
+        each m h (yes e) = (i, omega arith, on, ap (at more) e ∙ new_at)
         each m h (no n) =
-            let l : m < count = omega (arith, n) in
+            let l : m < length rules = omega (arith, n) in
             let q = d.each m l in
             (q.0, omega (arith, q.1), q.2, old_at m l ∙ q.3)
 
-        every : (j : ℕ) → j < i + 1 → test (at all j) ≡ true → Dec (j ≡ i) → (m : ℕ) × (m < count + 1) × (at (set rules count (at all i)) m ≡ at all j)
-        every j h b (yes e) = (count, omega arith, new_at ∙ ap (at all) (sym e))
+        every : (j : ℕ) → j < i + 1 → test (at all j) ≡ true → Dec (j ≡ i) → (m : ℕ) × (m < length more) × (at more m ≡ at all j)
+        every j h b (yes e) = (length rules, omega (arith, long), new_at ∙ ap (at all) (sym e))
         every j h b (no n) =
             let q = d.every j (omega (arith, n)) b in
-            (q.0, omega (arith, q.1), old_at q.0 q.1 ∙ q.2)
+            (q.0, omega (arith, q.1, long), old_at q.0 q.1 ∙ q.2)
 
-  pub kept_named : Named all i → Named rules count
-  kept_named n = record {
-    heads = λ m h. let q = d.each m h in rw q.3 (n.heads q.0 q.1);
-    parts = λ m h. let q = d.each m h in rw q.3 (n.parts q.0 q.1);
-  }
-
-pub kept_lists : (choice : List ℕ) (known : Known) {all : List ℕ} {i : ℕ} {rules : List ℕ} {count : ℕ} → Lists (given everywhere known) all i → Kept (in_force choice known.program) all i rules count → Lists (given choice known) rules count
-kept_lists choice known {all} {i} {rules} {count} l d = record {
-  each = λ m h.
-      let q = d.each m h in
-      let r = l.each q.0 q.1 in
-      let o = own choice known r.0 (at all q.0) r.1 q.2 in
-      (o.0, rw q.3 o.1);
-  all = λ r.
-      let v = widened choice known r in
-      let j = l.all v.0 in
-      let s : Says (at all j.0) (form_of r) = subst (Says (at all j.0)) v.1 j.2 in
-      let m = d.every j.0 j.1 (in_force_lem choice known r (at all j.0) s) in
-      (m.0, m.1, rw m.2 s);
+pub kept_lists : {choice : List ℕ} {known : Known} {all rules : List ℕ} → RulesFor everywhere known all → Kept (in_force choice known.program) all (length all) rules → RulesFor choice known rules
+kept_lists {choice} {known} {all} {rules} l d = record {
+  few = omega (arith, l.few, d.few);
+  lists = record {
+    each = λ m h.
+        let q = d.each m h in
+        let r = l.lists.each q.0 q.1 in
+        let o = own choice known r.0 (at all q.0) r.1 q.2 in
+        (o.0, rw q.3 o.1);
+    all = λ r.
+        let v = widened choice known r in
+        let j = l.lists.all v.0 in
+        let s : Says (at all j.0) (form_of r) = subst (Says (at all j.0)) v.1 j.2 in
+        let m = d.every j.0 j.1 (in_force_lem choice known r (at all j.0) s) in
+        (m.0, m.1, rw m.2 s);
+  };
 }
-
--- ---- the words of a list up to its count
-
-pub widest_taken : (known : Known) (rules : List ℕ) (count : ℕ) → count ≤ length rules → count ≤ 8384 → Named rules count → Lists (given everywhere known) rules count → Widest known (take count rules)
-widest_taken known rules count h f n l = record {
-  few = rw long f;
-  named = rw long (record { heads = λ j b. rw (at_taken j b) (n.heads j b); parts = λ j b. rw (at_taken j b) (n.parts j b) });
-  lists = rw long (record {
-    each = λ j b. let r = l.each j b in (r.0, rw (at_taken j b) r.1);
-    all = λ r. let j = l.all r in (j.0, j.1, rw (at_taken j.0 j.1) j.2);
-  });
-}
-  where
-    long : length (take count rules) ≡ count
-    long = length-take-le count rules h
-
-    at_taken : (j : ℕ) → j < count → at (take count rules) j ≡ at rules j
-    at_taken j b = get_or-take count rules j 0 b

@@ -6,11 +6,12 @@ use mathlib.Core.List.{List}
 use native.Mathlib.Omega.{arith}
 use native.Mathlib.Decide.{dec_lt}
 use lib.Dec.{ltb}
+use lib.ListN.{length}
 use borrow.Author.Tests.{lt-ltb, le-ltb}
 use Rattle.size.specs.Size.{cap}
 use Rattle.size.specs.Numbers.{at}
 use Rattle.solver.specs.System.{sum_of, gives, Derives, none, rule, Solves}
-use Rattle.solver.specs.Words.{entry_count, head_of, part_of, other_of, base_of, size_at, others, word_form, word, start, item_form}
+use Rattle.solver.specs.Words.{Named, entry_count, head_of, part_of, other_of, base_of, size_at, others, word_form, word, start, item_form}
 use Rattle.solver.proofs.Rises.{der_less}
 use Rattle.rules.specs.System.{Entry, size, along, Form, Given, RuleOf, DerOf, forms_of, Solved, Derived}
 use Rattle.rules.specs.Entries.{offset, entry_at}
@@ -49,7 +50,11 @@ module _ (v : ℕ → ℕ) where
       go (yes a) = rw (lt-ltb (other_of w) 2304 a) (omega (arith, seen_at (part_of w) s.part_low, seen_size (other_of w) a))
       go (no a) = rw (le-ltb (other_of w) 2304 (omega arith)) (omega (arith, seen_at (part_of w) s.part_low))
 
-module _ (S : Given) {rules : List ℕ} {count : ℕ} (lists : Lists S rules count) {from : ℕ → ℕ} (derived : Derived S.program S.synchronising S.reached S.choice from) (past : (x : ℕ) → 2304 ≤ x → from x ≡ 0) where
+-- and its numbers are of entries
+pub lists_named : {S : Given} {rules : List ℕ} → Lists S rules → Named rules (length rules)
+lists_named l = record { heads = λ j h. (l.each j h).1.head_low; parts = λ j h. (l.each j h).1.part_low }
+
+module _ (S : Given) {rules : List ℕ} (lists : Lists S rules) {from : ℕ → ℕ} (derived : Derived S.program S.synchronising S.reached S.choice from) (past : (x : ℕ) → 2304 ≤ x → from x ≡ 0) where
   seen_derived : (v : ℕ → ℕ) → ((x : ℕ) → DerOf S (entry_at x) (v x)) → (y : Entry) → DerOf S y (seen v y)
   seen_derived v d (size x) = go (dec_lt x 2304)
     where
@@ -70,14 +75,14 @@ module _ (S : Given) {rules : List ℕ} {count : ℕ} (lists : Lists S rules cou
       go (no h) = rw (past x (omega arith)) none
 
   -- what the words derive, the rules do
-  words_derive : {x t : ℕ} → Derives (item_form rules count from) x t → DerOf S (entry_at x) t
+  words_derive : {x t : ℕ} → Derives (item_form rules (length rules) from) x t → DerOf S (entry_at x) t
   words_derive none = none
   words_derive (rule {t = t} (word j h) v e d l) =
       let q = lists.each j h in
       rule {t = t} q.0 (seen v) (ap entry_at e ∙ sym q.1.head_is) (seen_derived v (λ z. words_derive (d z))) (omega (arith, says_gives v (at rules j) q.1))
   words_derive (rule {t = t} (start y) v e d l) = subst (λ (i : ℕ). DerOf S (entry_at i) t) (sym e) (der_less (forms_of S) t (omega arith) (start_derived y))
 
-  pub words_solve : {v : ℕ → ℕ} → Solves (item_form rules count from) v → Solved S.program S.synchronising S.reached S.choice (seen v)
+  pub words_solve : {v : ℕ → ℕ} → Solves (item_form rules (length rules) from) v → Solved S.program S.synchronising S.reached S.choice (seen v)
   words_solve {v} s = record { derived = seen_derived v (λ x. words_derive (s.derived x)); closed = closed }
     where
       closed : (r : RuleOf S) → gives (seen v) (forms_of S r) ≤ seen v (forms_of S r).head

@@ -1,11 +1,13 @@
 -- The rules of the finite system as words in a list, as the code keeps them. Helps proofs only.
-use Rattle.std.specs.Prelude.{ℕ, zero, suc, ◌+◌, ◌-◌, ◌*◌, ◌/◌, ◌%◌, ◌<◌, ◌≤◌, ◌≡◌, Bool, true, cond, List, ltb, length, replicate, Option, None, Some}
+use Rattle.std.specs.Borrow.{Bor, MutBor}
+use Rattle.std.specs.Fn.{Once}
+use Rattle.std.specs.Prelude.{ℕ, zero, suc, ◌+◌, ◌-◌, ◌*◌, ◌/◌, ◌%◌, ◌<◌, ◌≤◌, ◌≡◌, Bool, true, false, cond, List, ltb, length, replicate, Option, None, Some}
 use Rattle.table.specs.Program.{program_of}
 use Rattle.table.specs.declared.Counts.{Counts}
 use Rattle.program.specs.declared.Program.{Program}
 use Rattle.sync.specs.Words.{member}
 use Rattle.size.specs.Numbers.{at}
-use Rattle.solver.specs.Words.{head_of, part_of, other_of, base_of, Named, rule_of}
+use Rattle.solver.specs.Words.{head_of, rule_of}
 use Rattle.rules.specs.Choice.{unguarded}
 use Rattle.rules.specs.System.{Form, Given, RuleOf, takes, form_of}
 use Rattle.rules.specs.Numbered.{count_of, on_at, form_at, Means}
@@ -120,33 +122,67 @@ on_in x k i = on_at x.choice.now x.known.now k i
 abbrev pub form_in : Source → Kind → ℕ → Form
 form_in x k i = form_at x.known.now.program.table.now k i
 
--- The rule at place i of a group, if it is there, is among the first words.
-abbrev pub Placed : Source → List ℕ → ℕ → Group → ℕ → Type 0
-Placed x rules count g i = on_in x (kind_at g i) (number_at x.orders.now g i) ≡ true → (j : ℕ) × (j < count) × Says (at rules j) (form_in x (kind_at g i) (number_at x.orders.now g i))
+-- how many rules the largest table can have, with 512 nodes, 1,024 edges and 64 functions
+abbrev pub most_slots : ℕ
+most_slots = 8384
 
--- The first words are rules, and those of the places that are done are among them.
-pub record Listed (x : Source) (p : Progress) (rules : List ℕ) (count : ℕ) : Type 0 where
-  pub each : (j : ℕ) → j < count → (k : Kind) × (i : ℕ) × (i < count_of x.known.now.program.of k) × (on_in x k i ≡ true) × Says (at rules j) (form_in x k i)
-  pub all : (g : Group) (i : ℕ) → i < done p g → Placed x rules count g i
+-- A list has room for so many words, and for no more than the largest table's.
+abbrev pub RoomFor : ℕ → ℕ → Type 0
+RoomFor words room = (words ≤ room) × (room ≤ most_slots)
+
+-- The word of the rule at place i of a group, if it is there.
+abbrev pub WordFor : Source → Group → ℕ → Option ℕ → Type 0
+WordFor x g i None = on_in x (kind_at g i) (number_at x.orders.now g i) ≡ false
+WordFor x g i (Some w) = (on_in x (kind_at g i) (number_at x.orders.now g i) ≡ true) × Says w (form_in x (kind_at g i) (number_at x.orders.now g i))
+
+-- The rule at place i of a group, if it is there, is among the words.
+abbrev pub Placed : Source → List ℕ → Group → ℕ → Type 0
+Placed x rules g i = on_in x (kind_at g i) (number_at x.orders.now g i) ≡ true → (j : ℕ) × (j < length rules) × Says (at rules j) (form_in x (kind_at g i) (number_at x.orders.now g i))
+
+-- Each word is a rule, and those of the places that are done are among them.
+pub record Listed (x : Source) (p : Progress) (rules : List ℕ) : Type 0 where
+  pub each : (j : ℕ) → j < length rules → (k : Kind) × (i : ℕ) × (i < count_of x.known.now.program.of k) × (on_in x k i ≡ true) × Says (at rules j) (form_in x k i)
+  pub all : (g : Group) (i : ℕ) → i < done p g → Placed x rules g i
 
 -- So it is from lo to hi for the first q places of one group more.
-pub record Listing (x : Source) (p : Progress) (g : Group) (lo hi q : ℕ) (rules : List ℕ) (count : ℕ) : Type 0 where
-  pub listed : Listed x p rules count
-  pub some : (r : ℕ) → r < q → Placed x rules count g (place_at g lo hi r)
+pub record Listing (x : Source) (p : Progress) (g : Group) (lo hi q : ℕ) (rules : List ℕ) : Type 0 where
+  pub listed : Listed x p rules
+  pub some : (r : ℕ) → r < q → Placed x rules g (place_at g lo hi r)
 
 -- What listing from lo to hi does, whatever was done before.
-pub record Lengthens (x : Source) (g : Group) (lo hi : ℕ) (old : List ℕ) (first : ℕ) (new : List ℕ) (count : ℕ) : Type 0 where
-  pub long : length new ≡ length old
-  pub few : count ≤ first + (hi - lo)
-  pub more : (p : Progress) → done p g ≡ lo → Listed x p old first → Listed x (up_to p g hi) new count
+pub record Lengthens (x : Source) (g : Group) (lo hi : ℕ) (old new : List ℕ) : Type 0 where
+  pub few : length new ≤ length old + (hi - lo)
+  pub more : (p : Progress) → done p g ≡ lo → Listed x p old → Listed x (up_to p g hi) new
 
--- The first words are the rules of the system, all of them.
-pub record Lists (S : Given) (rules : List ℕ) (count : ℕ) : Type 0 where
-  pub each : (j : ℕ) → j < count → (r : RuleOf S) × Says (at rules j) (form_of r)
-  pub all : (r : RuleOf S) → (j : ℕ) × (j < count) × Says (at rules j) (form_of r)
+-- The words are the rules of the system, all of them.
+pub record Lists (S : Given) (rules : List ℕ) : Type 0 where
+  pub each : (j : ℕ) → j < length rules → (r : RuleOf S) × Says (at rules j) (form_of r)
+  pub all : (r : RuleOf S) → (j : ℕ) × (j < length rules) × Says (at rules j) (form_of r)
 
--- The words are the rules of the widest choice.
-pub record Widest (known : Known) (all : List ℕ) : Type 0 where
-  pub few : length all ≤ 8384
-  pub named : Named all (length all)
-  pub lists : Lists (given everywhere known) all (length all)
+-- The words are the rules of a choice; there are no more of them than places.
+pub record RulesFor (choice : List ℕ) (known : Known) (rules : List ℕ) : Type 0 where
+  pub few : length rules ≤ slots known.program.of
+  pub lists : Lists (given choice known) rules
+
+-- and those of the widest choice
+abbrev pub Widest : Known → List ℕ → Type 0
+Widest = RulesFor everywhere
+
+-- How many words the rules of a choice can take, where those of the widest one are at hand, or not.
+abbrev pub needed : Known → Option (Bor (List ℕ)) → ℕ
+needed known (Some all) = length all.now
+needed known None = slots known.program.of
+
+-- A closure that is lent a state may be called at the rules of a choice,
+abbrev pub TakesRules : {F S R : Type 0} → List ℕ → Known → Once F (MutBor S × (Bor (List ℕ) × Unit {0})) (R × (MutBor S × Unit {0})) → F → S → Type 0
+TakesRules {F} {S} choice known g f s = (rules : Bor (List ℕ)) → RulesFor choice known rules.now → (state : MutBor S) → state.now ≡ s → g.pre f (state, (rules, tt))
+
+-- and this is what it gave, and what it left.
+pub record GivenRules {F S R : Type 0} (choice : List ℕ) (known : Known) (g : Once F (MutBor S × (Bor (List ℕ) × Unit {0})) (R × (MutBor S × Unit {0}))) (f : F) (old new : S) (result : R) : Type 0 where
+  pub rules : Bor (List ℕ)
+  pub rules_for : RulesFor choice known rules.now
+  pub shown : MutBor S
+  pub shows : shown.now ≡ old
+  pub left : MutBor S
+  pub leaves : left.now ≡ new
+  pub called : g.post f (shown, (rules, tt)) (result, (left, tt))

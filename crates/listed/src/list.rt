@@ -1,10 +1,11 @@
 // The rules of a table and a choice, listed as words.
-ghost use Rattle.std.specs.Prelude.{◌≡◌, ℕ, ◌+◌, ◌-◌, ◌*◌, ◌<◌, ◌≤◌, length};
-ghost use Rattle.listed.specs.Listed.{node_kind, node_number, edge_kind, function_kind, places_of, slots, kind_at, number_at, place_at, blocks, on_in, form_in, given, Listed, Lengthens, Lists};
-ghost use Rattle.solver.specs.Words.{Named};
+ghost use Rattle.std.specs.Prelude.{◌≡◌, ℕ, ◌+◌, ◌-◌, ◌*◌, ◌<◌, ◌≤◌, []};
+ghost use Rattle.arrayvec.specs.ArrayVec.{array_vec_len};
+ghost use Rattle.listed.specs.Listed.{node_kind, node_number, edge_kind, function_kind, places_of, slots, kind_at, number_at, place_at, blocks, on_in, form_in, RoomFor, WordFor, Listed, Lengthens, RulesFor};
 ghost use Rattle.rules.specs.Numbered.{count_of, Gives};
 
 use crate::source::Source;
+use arrayvec::ArrayVec;
 use order::sure::get;
 use rule_order::{Item, Items, order_all};
 use rules::kinds::{Kind, numbered};
@@ -12,7 +13,6 @@ use rules::sums::Sum;
 use solver::rule::Rule;
 use std::ops::Range;
 use sync::Known;
-use table::Counts;
 
 // The rules of a node, those of an edge that run with it, the one that runs against it, and those of a function.
 #[derive(Clone, Copy)]
@@ -82,29 +82,21 @@ fn of_function(c: usize) -> Kind
 }
 
 impl Group {
-    // The q-th place from lo to hi, counted from the last one where rules run against the edges.
-    fn place(self, lo: usize, hi: usize, q: usize) -> usize
-        requires { lo + q < hi }
-        ensures { result ≡ place_at self lo hi q }
+    // The q-th of these places, counted from the last one where rules run against the edges.
+    fn place(self, places: &Range<usize>, q: usize) -> usize
+        requires { places.now.start + q < places.now.end }
+        ensures { result ≡ place_at self places.now.start places.now.end q }
     {
         match self {
-            Group::Node | Group::Edge | Group::Function => lo + q,
-            Group::Back => hi - (q + 1),
+            Group::Node | Group::Edge | Group::Function => places.start + q,
+            Group::Back => places.end - (q + 1),
         }
     }
 }
 
-// How many words the rules of a table can take.
-pub fn room(of: Counts) -> usize
-    requires { slots of ≤ 8384 }
-    ensures { result ≡ slots of }
-{
-    8 * of.nodes + 4 * of.edges + 3 * of.functions
-}
-
-// The words stand in fixed memory that the caller lends, so each of these takes and gives how many there are.
 impl Source<'_> {
-    // The kind and number of the rule at place i of a group.
+    // The kind and number of the rule at place i of a group. The specs give both by group, so four functions in its place would be matched
+    // there as well.
     fn slot(&self, group: Group, i: usize) -> Slot
         requires { i < places_of self.now.known.now.program.of group }
         ensures slot_is { (result.kind ≡ kind_at group i) × (result.number ≡ number_at self.now.orders.now group i) }
@@ -136,49 +128,56 @@ impl Source<'_> {
         numbered(slot.kind, self.known, self.choice, slot.number)
     }
 
-    // Lists the rules of a group from place lo to hi behind the first words, and gives how many words there are then.
-    fn list(&self, group: Group, lo: usize, hi: usize, first: usize, rules: &mut [u64]) -> usize
-        requires { (lo ≤ hi) × (hi ≤ places_of self.now.known.now.program.of group) × (first + (hi - lo) ≤ length rules.old) }
-        ensures { Lengthens self.now group lo hi rules.old first rules.new result }
+    // That rule as a word. No list stands here, so that there is one such function for lists of all sizes, and what it calls is put into it:
+    // with a rule handed to the list a large table took a tenth longer.
+    fn word_at(&self, group: Group, i: usize) -> Option<u64>
+        requires { i < places_of self.now.known.now.program.of group }
+        ensures { WordFor self.now group i result }
     {
-        let mut end = first;
-        for q in 0..hi - lo {
-            if let Some(rule) = self.rule_at(group, group.place(lo, hi, q)) {
-                rules[end] = rule.packed();
-                end += 1;
+        self.rule_at(group, i).map(Rule::packed)
+    }
+
+    // Lists the rules of a group at these places.
+    fn list<const N: usize>(&self, group: Group, places: Range<usize>, rules: &mut ArrayVec<u64, N>)
+        requires places_within { (places.start ≤ places.end) × (places.end ≤ places_of self.now.known.now.program.of group) }
+        requires room { RoomFor (array_vec_len rules.old + (places.end - places.start)) N }
+        ensures { Lengthens self.now group places.start places.end rules.old.items rules.new.items }
+    {
+        for q in 0..places.end - places.start {
+            if let Some(word) = self.word_at(group, group.place(&places, q)) {
+                rules.push(word);
             }
         }
-        end
     }
 
     // Lists the rules of a block: those of the nodes and edges at these places, and of the function at place f.
-    fn list_block(
+    fn list_block<const N: usize>(
         &self,
         nodes: Range<usize>,
         edges: Range<usize>,
         f: usize,
-        first: usize,
-        rules: &mut [u64],
-    ) -> usize
+        rules: &mut ArrayVec<u64, N>,
+    )
         requires nodes_within { (nodes.start ≤ nodes.end) × (nodes.end ≤ self.now.known.now.program.of.nodes) }
         requires edges_within { (edges.start ≤ edges.end) × (edges.end ≤ self.now.known.now.program.of.edges) }
         requires function_within { f < self.now.known.now.program.of.functions }
-        requires room { (slots self.now.known.now.program.of ≤ length rules.old) × (first ≤ 8 * nodes.start + 4 * edges.start + 3 * f) }
-        requires listed { Listed self.now (blocks nodes.start edges.start f) rules.old first }
-        ensures rules_len_unchanged { (length rules.new ≡ length rules.old) × (result ≤ 8 * nodes.end + 4 * edges.end + 3 * (f + 1)) }
-        ensures still_listed { Listed self.now (blocks nodes.end edges.end (f + 1)) rules.new result }
+        requires room { RoomFor (slots self.now.known.now.program.of) N × (array_vec_len rules.old ≤ 8 * nodes.start + 4 * edges.start + 3 * f) }
+        requires listed { Listed self.now (blocks nodes.start edges.start f) rules.old.items }
+        ensures few { array_vec_len rules.new ≤ 8 * nodes.end + 4 * edges.end + 3 * (f + 1) }
+        ensures still_listed { Listed self.now (blocks nodes.end edges.end (f + 1)) rules.new.items }
     {
-        let x = self.list(Group::Node, 8 * nodes.start, 8 * nodes.end, first, rules);
-        let y = self.list(Group::Edge, 3 * edges.start, 3 * edges.end, x, rules);
-        let z = self.list(Group::Back, edges.start, edges.end, y, rules);
-        self.list(Group::Function, 3 * f, 3 * (f + 1), z, rules)
+        self.list(Group::Node, 8 * nodes.start..8 * nodes.end, rules);
+        self.list(Group::Edge, 3 * edges.start..3 * edges.end, rules);
+        self.list(Group::Back, edges, rules);
+        self.list(Group::Function, 3 * f..3 * (f + 1), rules);
     }
 
-    // Lists all rules, function by function, and gives how many words there are.
-    fn list_all(&self, rules: &mut [u64]) -> usize
-        requires { slots self.now.known.now.program.of ≤ length rules.old }
-        ensures rules_len_unchanged { (length rules.new ≡ length rules.old) × (result ≤ slots self.now.known.now.program.of) }
-        ensures listed { Listed self.now (blocks self.now.known.now.program.of.nodes self.now.known.now.program.of.edges self.now.known.now.program.of.functions) rules.new result }
+    // Lists all rules, function by function.
+    #[tactic(auto, using(crate::proofs::Listing::listed_none, table::proofs::Laws::well_formed))]
+    fn list_all<const N: usize>(&self, rules: &mut ArrayVec<u64, N>)
+        requires { (rules.old.items ≡ []) × RoomFor (slots self.now.known.now.program.of) N }
+        ensures few { array_vec_len rules.new ≤ slots self.now.known.now.program.of }
+        ensures listed { Listed self.now (blocks self.now.known.now.program.of.nodes self.now.known.now.program.of.edges self.now.known.now.program.of.functions) rules.new.items }
     {
         let program = &self.known.program;
         let of = program.of;
@@ -193,26 +192,27 @@ impl Source<'_> {
             program,
             item: Item::Edge,
         };
-        let mut count = 0;
         let mut a = 0;
         let mut b = 0;
         for f in 0..of.functions {
             let left = &functions[f..of.functions];
             let c = node.end_of(nodes, a, left);
             let d = edge.end_of(edges, b, left);
-            count = self.list_block(a..c, b..d, f, count, rules);
+            self.list_block(a..c, b..d, f, rules);
             a = c;
             b = d;
         }
-        count
     }
 }
 
-// Lists the rules of a table and a choice, and gives how many words there are.
-pub fn list_rules(known: &Known<'_>, choice: &[u8], rules: &mut [u64]) -> usize
-    requires { slots known.now.program.of ≤ length rules.old }
-    ensures rules_len_unchanged { (length rules.new ≡ length rules.old) × (result ≤ slots known.now.program.of) × Named rules.new result }
-    ensures lists { Lists (given choice.now known.now) rules.new result }
+// Lists the rules of a table and a choice.
+pub(crate) fn list_rules<const N: usize>(
+    known: &Known<'_>,
+    choice: &[u8],
+    rules: &mut ArrayVec<u64, N>,
+)
+    requires { (rules.old.items ≡ []) × RoomFor (slots known.now.program.of) N }
+    ensures { RulesFor choice.now known.now rules.new.items }
 {
     let orders = order_all(&known.program);
     let source = Source {
@@ -220,5 +220,5 @@ pub fn list_rules(known: &Known<'_>, choice: &[u8], rules: &mut [u64]) -> usize
         choice,
         orders: &orders,
     };
-    source.list_all(rules)
+    source.list_all(rules);
 }

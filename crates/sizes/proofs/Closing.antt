@@ -1,10 +1,10 @@
 -- What the least solution of a table's rules comes to: the least sizes, and the largest sums.
-use Prim.Native.Nat.{ℕ, ◌+◌, ◌<◌, ◌≤◌}
+use Prim.Native.Nat.{ℕ, ◌+◌, ◌*◌, ◌<◌, ◌≤◌}
 use mathlib.Core.Path.{◌≡◌, sym, ap, ◌∙◌, subst}
-use mathlib.Core.List.{List, [], map}
+use mathlib.Core.List.{List, map}
 use lib.ListN.{length, take}
 use native.Mathlib.Omega.{arith}
-use Rattle.std.proofs.lemmas.List.{get_or-take, length-take-le}
+use Rattle.std.proofs.lemmas.List.{get_or_past, length-take}
 use Rattle.table.proofs.Laws.{well_formed}
 use Rattle.sync.specs.Found.{Looked}
 use Rattle.sync.specs.Words.{member}
@@ -12,26 +12,20 @@ use Rattle.sync.specs.declared.Known.{Known}
 use Rattle.size.specs.Size.{cap, value_of}
 use Rattle.size.specs.Numbers.{at}
 use Rattle.solver.specs.declared.solution.Solution.{Solution}
-use Rattle.solver.specs.Values.{number_at, values_of, starts_from, Settles}
+use Rattle.solver.specs.Values.{number_at, values_of, Settles}
 use Rattle.solver.proofs.Rises.{der_less}
-use Rattle.solver.proofs.Values.{value_size, value_after, value_before, first_starts, starts_zero}
+use Rattle.solver.proofs.Values.{value_size, value_after, value_before, first_starts}
 use Rattle.rules.specs.Rules.{entries}
 use Rattle.rules.specs.Sums.{LargestAfter, LargestBefore}
-use Rattle.rules.specs.System.{Entry, size, along, Given, forms_of, Solved}
+use Rattle.rules.specs.System.{Entry, size, along, forms_of, Solved}
 use Rattle.rules.specs.declared.sums.Sum.TheVariants.{After, Before}
 use Rattle.rules.proofs.Solved.{solved_least, solved_after, solved_before}
-use Rattle.listed.specs.Listed.{given, Lists}
+use Rattle.listed.specs.Listed.{given, Lists, RulesFor}
 use Rattle.listed.proofs.Worded.{seen, seen_size, seen_along, words_solve}
-use Rattle.sizes.proofs.Trying.{zeros_derived}
-use Rattle.sizes.specs.Trials.{known_program, DerivedFor, FoundFor}
+use Rattle.sizes.specs.Trials.{known_program, DerivedFor, FoundFor, StartsFor}
+use Rattle.sizes.specs.declared.trials.Prepared.{Prepared}
 
--- the rules that the code cuts off are listed
-pub first_lists : {S : Given} {rules : List ℕ} {count : ℕ} → count ≤ length rules → Lists S rules count → Lists S (take count rules) (length (take count rules))
-first_lists {S} {rules} {count} h l =
-    rw length-take-le
-    (record { each = λ j q. let r = l.each j q in (r.0, rw get_or-take r.1); all = λ r. let a = l.all r in let q = a.1 in (a.0, q, rw get_or-take a.2) })
-
-module _ (choice : List ℕ) (known : Known) (looked : Looked known) (f : Solution) {rules : List ℕ} {from : ℕ → ℕ} (s : Settles rules from f) (lists : Lists (given choice known) rules (length rules)) (past : (x : ℕ) → 2304 ≤ x → from x ≡ 0) (derived : DerivedFor known (at choice) from) where
+module _ (choice : List ℕ) (known : Known) (looked : Looked known) (f : Solution) {rules : List ℕ} {from : ℕ → ℕ} (s : Settles rules from f) (lists : Lists (given choice known) rules) (past : (x : ℕ) → 2304 ≤ x → from x ≡ 0) (derived : DerivedFor known (at choice) from) where
   abbrev v : Entry → ℕ
   v = seen (number_at f)
 
@@ -74,16 +68,15 @@ module _ (choice : List ℕ) (known : Known) (looked : Looked known) (f : Soluti
         sizes_are = size_is;
       }
 
--- from zeros, and from sizes that the choice derives
-module _ (choice : List ℕ) (known : Known) (looked : Looked known) (f : Solution) {rules : List ℕ} {count : ℕ} (fits : count ≤ length rules) (lists : Lists (given choice known) rules count) {from : ℕ → ℕ} (s : Settles (take count rules) from f) where
-  pub found_from_zeros : ((x : ℕ) → from x ≡ cap (at [] x)) → FoundFor known (at choice) f
-  found_from_zeros start = found choice known looked f s (first_lists fits lists) (λ x h. start x) (zeros_derived known (at choice) from start)
+-- from numbers that the choice derives
+pub found_from : (numbers : List ℕ) {choice rules : List ℕ} {known : Known} {f : Solution} → Looked known → RulesFor choice known rules → length numbers ≤ 2304 → DerivedFor known (at choice) (at numbers) → {from : ℕ → ℕ} → ((x : ℕ) → from x ≡ cap (at numbers x)) → Settles rules from f → FoundFor known (at choice) f
+found_from numbers {choice} {rules} {known} {f} looked r low d starts s =
+    found choice known looked f s r.lists (λ x h. starts x ∙ ap cap (get_or_past numbers x 0 (omega arith)))
+    (record { each = λ x. rw starts (der_less (forms_of (given choice known)) (cap (at numbers x)) (omega arith) (d.each x)) })
 
-  pub found_from : (taken : ℕ) (numbers : List ℕ) → ((x : ℕ) → from x ≡ cap (at (take taken numbers) x)) → taken ≤ 2304 → DerivedFor known (at choice) (starts_from taken numbers) → FoundFor known (at choice) f
-  found_from taken numbers start few d =
-      found choice known looked f s (first_lists fits lists)
-      (λ x h. started x ∙ ap cap (starts_zero taken numbers x (omega arith)))
-      (record { each = λ x. rw started (der_less (forms_of (given choice known)) (cap (starts_from taken numbers x)) (omega arith) (d.each x)) })
-    where
-      started : (x : ℕ) → from x ≡ cap (starts_from taken numbers x)
-      started x = start x ∙ ap cap (first_starts taken numbers x)
+-- and from those that the sizes of a smaller choice are cut off from
+pub derived_cut : {p : Prepared} {c : ℕ → ℕ} {numbers : List ℕ} → StartsFor p c numbers → (length (take (4 * (p.known.program.of.functions + p.known.program.of.nodes)) numbers) ≤ 2304) × DerivedFor p.known c (at (take (4 * (p.known.program.of.functions + p.known.program.of.nodes)) numbers))
+derived_cut {p} {c} {numbers} s =
+    let q = p.known.program in
+    let e : 4 * (q.of.functions + q.of.nodes) ≡ entries (known_program p.known) = omega (arith, q.functions_are, q.nodes_are) in
+    (omega (arith, s.long, length-take (4 * (q.of.functions + q.of.nodes)) numbers), rw e (record { each = λ x. rw (first_starts (entries (known_program p.known)) numbers x) (s.derived.each x) }))

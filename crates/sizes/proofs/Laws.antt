@@ -15,6 +15,7 @@ use Rattle.sync.specs.Synchronising.{Synchronising}
 use Rattle.sync.proofs.Laws.{synchronising_unique}
 use Rattle.size.specs.Size.{unbounded}
 use Rattle.rules.specs.Choice.{AtMost}
+use Rattle.size.specs.Numbers.{Written}
 use Rattle.rules.specs.Rules.{entries, Meets, Least, LeastSizes}
 use Rattle.rules.specs.System.{Entry, Form, Rule, start, step_on, end, total_node, total_edge, target_of, form_of, gives, Der, none, rule, Derived}
 use Rattle.rules.proofs.Taking.{takes_larger}
@@ -109,6 +110,10 @@ module _ (g : Program) (set reached : ℕ → Bool) where
   derived_larger c d s b h = record { each = λ x. der_larger c d b (h.each x) }
 
 -- ---- how many sizes a table has
+
+-- as many numbers are written, however their number is reckoned
+pub written_as : {n m : ℕ} {v : ℕ → ℕ} {old new : List ℕ} → Written n v old new → n ≡ m → Written m v old new
+written_as {n} {m} {v} {old} {new} w e = subst (λ (k : ℕ). Written k v old new) e w
 
 module _ {t : List ℕ} {c : Counts} (ready : Ready t c) where
   pub entries_are : 4 * (c.functions + c.nodes) ≡ entries (program_of t)

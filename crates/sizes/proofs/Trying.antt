@@ -1,6 +1,6 @@
 -- What the crates above may use of trials: numbers that hold the sizes of a choice hold the least ones,
 -- zeros will do for every choice, and what was found for a smaller choice will do for a larger one.
-use Prim.Native.Nat.{ℕ, ◌<◌, ◌≤◌}
+use Prim.Native.Nat.{ℕ, ◌<◌}
 use mathlib.Core.Path.{◌≡◌, ap, ◌∙◌}
 use mathlib.Core.List.{List, map}
 use native.Mathlib.Omega.{arith}
@@ -25,9 +25,6 @@ pub zeros_derived : (known : Known) (c s : ℕ → ℕ) → ((x : ℕ) → s x �
 zeros_derived known c s z = record { each = λ x. rw (z x) none }
 
 module _ {p : Prepared} where
-  pub words_few : PreparedFor p → length p.words.now ≤ 8384
-  words_few q = q.words_for.widest.few
-
   -- numbers that hold the sizes of a choice hold the least ones
   pub holds_least : {c : ℕ → ℕ} {numbers : List ℕ} → PreparedFor p → (h : Holds p c numbers) → LeastSizes (known_program p.known) c h.found.sizes
   holds_least q h = (member p.known.synchronising, q.looked.set, h.found.sizes_of.least)

@@ -1,8 +1,9 @@
 -- What is found of a choice, and from what it may be found. Helps proofs only: the crates above know these records by the laws in
 -- proofs/Trying, and do not look inside.
+use Rattle.std.specs.Borrow.{Bor}
+use Rattle.std.specs.Fn.{Once, FnOnceTakesAt, FnOnceReturnsAt}
 use Rattle.std.specs.Prelude.{ℕ, ◌<◌, ◌≡◌, List, map, length}
 use Rattle.table.specs.Program.{Program, program_of}
-use Rattle.table.specs.declared.Counts.{Counts}
 use Rattle.sync.specs.Found.{Looked}
 use Rattle.sync.specs.Words.{member}
 use Rattle.sync.specs.declared.Known.{Known}
@@ -12,7 +13,7 @@ use Rattle.solver.specs.Values.{starts_from}
 use Rattle.solver.specs.declared.solution.Solution.{Solution}
 use Rattle.rules.specs.Rules.{entries}
 use Rattle.rules.specs.System.{Derived}
-use Rattle.listed.specs.Listed.{slots, Widest}
+use Rattle.listed.specs.Listed.{Widest}
 use Rattle.sizes.specs.Answer.{SizesOf}
 use Rattle.sizes.specs.declared.trials.Prepared.{Prepared}
 
@@ -30,18 +31,29 @@ pub record FoundFor (known : Known) (choice : ℕ → ℕ) (found : Solution) : 
   pub derived : DerivedFor known choice sizes
   pub sizes_are : (x : ℕ) → x < entries (known_program known) → at (map value_of found.sizes) x ≡ sizes x
 
--- how many words it takes to prepare a table
-abbrev pub room_for : Counts → ℕ
-room_for = slots
-
 -- The words prepare a table for trials: they are the rules of the widest choice.
 pub record WordsFor (known : Known) (words : List ℕ) : Type 0 where
   pub widest : Widest known words
+
+-- A table that is known is prepared by these words.
+abbrev pub PreparedFrom : Known → List ℕ → Type 0
+PreparedFrom known words = Looked known × WordsFor known words
 
 -- It is prepared.
 pub record PreparedFor (p : Prepared) : Type 0 where
   pub looked : Looked p.known
   pub words_for : WordsFor p.known p.words.now
+
+-- A closure may be called at a table that is prepared,
+abbrev pub TakesPrepared : {F R : Type 0} → Known → Once F (Bor Prepared × Unit {0}) R → F → Type 0
+TakesPrepared known g f = (p : Prepared) → p.known ≡ known → PreparedFor p → FnOnceTakesAt g f p
+
+-- and this is what it made of one.
+pub record MadeOfPrepared {F R : Type 0} (known : Known) (g : Once F (Bor Prepared × Unit {0}) R) (f : F) (result : R) : Type 0 where
+  pub prepared : Prepared
+  pub known_is : prepared.known ≡ known
+  pub prepared_for : PreparedFor prepared
+  pub made : FnOnceReturnsAt g f prepared result
 
 -- The sizes of a choice may be found from these numbers.
 pub record StartsFor (p : Prepared) (choice : ℕ → ℕ) (numbers : List ℕ) : Type 0 where

@@ -24,12 +24,7 @@ fn is_outside(program: &Program<'_>, choice: &[u8], n: usize) -> bool
 fn first_outside(program: &Program<'_>, choice: &[u8]) -> Option<usize>
     ensures { result ≡ earliest (outside program.now.table.now choice.now) program.now.of.nodes }
 {
-    for n in 0..program.of.nodes {
-        if is_outside(program, choice, n) {
-            return Some(n);
-        }
-    }
-    None
+    (0..program.of.nodes).find(|n| is_outside(program, choice, *n))
 }
 
 // Judges the choice and the length of the sizes buffer.

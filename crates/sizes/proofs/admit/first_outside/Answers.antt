@@ -1,14 +1,13 @@
-use mathlib.Core.Path.{sym}
-use native.Mathlib.Omega.{arith}
+use mathlib.Core.Path.{◌≡◌}
+use mathlib.Core.Bool.{true, false}
 use borrow.Author.Rules.{rules}
-use Rattle.table.proofs.Below.{passed_more, earliest_some, earliest_none}
+use Rattle.std.proofs.lemmas.Iterator.{first_from_Range}
+use Rattle.sizes.specs.Call.{outside}
+use Rattle.sizes.proofs.Calls.{earliest_by}
 use Rattle.sizes.proofs.admit.first_outside.Goals as goal
 
-pub returns-then-is_outside : goal.returns-then-is_outside
-returns-then-is_outside c = sym (earliest_some _ _ _ c.loop-n-test.true c.loop-n.invariant (search rules))
-
-pub loop-n-preserved : goal.loop-n-preserved
-loop-n-preserved c = passed_more _ _ c.loop-n.invariant (search rules)
-
 pub returns : goal.returns
-returns c = sym (earliest_none _ _ (λ k h. c.loop-n.invariant k (omega arith)))
+returns c =
+    let test = outside c.args.program.now.table.now c.args.choice.now in
+    earliest_by test c.args.program.now.of.nodes c.find.result
+    (first_from_Range _ _ _ c.find.result (λ k. test k ≡ true) (λ k. test k ≡ false) c.find.ensures.ran (λ x q k. search rules) (λ x q k. search rules))

@@ -4,8 +4,7 @@ use Rattle.listed.specs.Listed.{Progress, done, Listed, Listing}
 use Rattle.listed.proofs.source.Source.list.Given as goal
 
 abbrev pub invariant-loop-q : goal.invariant-loop-q
-invariant-loop-q l = record {
-  same_length : length l.rules ≡ length l.initial.rules;
-  few : l.end ≤ l.first + l.q;
-  listing : (p : Progress) → done p l.group ≡ l.lo → Listed l.self p l.initial.rules l.first → Listing l.self p l.group l.lo l.hi l.q l.rules l.end;
+invariant-loop-q g l = record {
+  few : length l.rules.items ≤ length l.initial.rules.items + l.q;
+  listing : (p : Progress) → done p l.group ≡ l.places.start → Listed l.self p l.initial.rules.items → Listing l.self p l.group l.places.start l.places.end l.q l.rules.items;
 }

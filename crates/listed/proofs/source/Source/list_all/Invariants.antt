@@ -4,12 +4,11 @@ use Rattle.listed.specs.Listed.{blocks, Listed}
 use Rattle.listed.proofs.source.Source.list_all.Given as goal
 
 abbrev pub invariant-loop-f : goal.invariant-loop-f
-invariant-loop-f l = record {
+invariant-loop-f g l = record {
   nodes_within : l.a ≤ l.self.known.now.program.of.nodes;
   edges_within : l.b ≤ l.self.known.now.program.of.edges;
   all_nodes : l.f ≡ l.self.known.now.program.of.functions → l.a ≡ l.self.known.now.program.of.nodes;
   all_edges : l.f ≡ l.self.known.now.program.of.functions → l.b ≡ l.self.known.now.program.of.edges;
-  same_length : length l.rules ≡ length l.initial.rules;
-  few : l.count ≤ 8 * l.a + 4 * l.b + 3 * l.f;
-  listed : Listed l.self (blocks l.a l.b l.f) l.rules l.count;
+  few : length l.rules.items ≤ 8 * l.a + 4 * l.b + 3 * l.f;
+  listed : Listed l.self (blocks l.a l.b l.f) l.rules.items;
 }

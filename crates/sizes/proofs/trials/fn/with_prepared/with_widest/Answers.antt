@@ -1,0 +1,11 @@
+use borrow.Author.Rules.{rules}
+use Rattle.std.proofs.Common.{refl}
+use Rattle.sizes.proofs.trials.fn.with_prepared.with_widest.Goals as goal
+
+pub returns : goal.returns
+returns g c = record {
+  prepared = _;
+  known_is = refl;
+  prepared_for = search rules;
+  made = (_, c.take.ensures, refl);
+}
