@@ -55,7 +55,7 @@ fn in_words<const N: usize, S, R, F: FnOnce(&mut S, &[u64]) -> R>(
 
 // Hands a closure the rules of a table and a choice, and answers what it does. Those of the widest choice may be lent: what they have is
 // not looked for again. Few rules get a small list: a large one would take longer to clear than all the rest. What the closure changes is
-// lent to it: with solutions answered, and so copied, a call on a small table took twice as long. A list by value did so too.
+// lent to it: with solutions answered, and so copied, a call on a small table took twice as long, and with lists by value four times.
 pub fn with_rules<S, R, F: FnOnce(&mut S, &[u64]) -> R>(
     known: &Known<'_>,
     choice: &[u8],
