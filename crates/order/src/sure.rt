@@ -43,7 +43,7 @@ fn is_order(order: &[u16], places: &[u16]) -> bool
     (0..order.len()).all(|e| is_placed(order, places, e))
 }
 
-// Writes 0, 1, 2, .., each of which is below 65,536, so that the cast loses nothing.
+// Writes 0, 1, 2, .., by a cast: there are at most 65,536, and a conversion would ask what to do above that.
 #[tactic(auto, using(crate::proofs::Orders::own_place))]
 fn number(order: &mut [u16])
     requires { length order.old ≤ 65536 }
@@ -55,7 +55,7 @@ fn number(order: &mut [u16])
 }
 
 // Makes sure that the entries are an order of the numbers below their count: where they are not, each number gets its own place.
-pub fn make_sure(order: &mut [u16])
+fn make_sure(order: &mut [u16])
     requires { length order.old ≤ 1024 }
     ensures order_len_unchanged { length order.new ≡ length order.old }
     ensures ordered { Ordered (length order.old) order.new }
@@ -65,4 +65,15 @@ pub fn make_sure(order: &mut [u16])
     if !is_order(order, &places) {
         number(order);
     }
+}
+
+// Makes sure of the order in the first entries of an array.
+#[tactic(auto, using(crate::proofs::Orders::front_ordered))]
+pub fn sure_front<const N: usize>(order: [u16; N], count: usize) -> [u16; N]
+    requires { (count ≤ N) × (N ≤ 1024) }
+    ensures { Ordered count result }
+{
+    let mut sure = order;
+    make_sure(&mut sure[..count]);
+    sure
 }

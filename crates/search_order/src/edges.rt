@@ -4,7 +4,7 @@
 // The search is a hint: nothing is promised of it, so no place needs a bound. What it writes is made sure of.
 ghost use Rattle.order.specs.Order.{Ordered};
 
-use order::sure::{get, make_sure, put};
+use order::sure::{get, put, sure_front};
 use program::Program;
 
 // The edges that a search has left: the first of each from-node, and the next after each edge. They are linked by number, since there
@@ -20,7 +20,7 @@ impl Links {
     fn put(&mut self, n: usize, e: usize) {
         if n < 512 && e < 1024 {
             self.next[e] = self.first[n];
-            // By `as`, since the test bounds e: `try_from` would ask for an answer where it does not fit.
+            // By `as`, since the test bounds e: `try_from` would test it again.
             self.first[n] = Some(e as u16);
         }
     }
@@ -115,11 +115,8 @@ fn search_all(program: &Program<'_>) -> [u16; 1024] {
 }
 
 // The order that the search gives, made sure of.
-#[tactic(auto, using(order::proofs::Orders::front_ordered))]
 pub fn order_edges(program: &Program<'_>) -> [u16; 1024]
     ensures { Ordered program.now.of.edges result }
 {
-    let mut order = search_all(program);
-    make_sure(&mut order[..program.of.edges]);
-    order
+    sure_front(search_all(program), program.of.edges)
 }

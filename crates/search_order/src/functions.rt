@@ -3,7 +3,7 @@
 ghost use Rattle.std.specs.Prelude.{◌<◌};
 ghost use Rattle.order.specs.Order.{Ordered};
 
-use order::sure::{make_sure, put};
+use order::sure::{put, sure_front};
 use program::Program;
 
 // The bit of function f, and none past the 64 that a table may have.
@@ -64,11 +64,8 @@ fn search_all(program: &Program<'_>) -> [u16; 64] {
 }
 
 // The order that the search gives, made sure of.
-#[tactic(auto, using(order::proofs::Orders::front_ordered))]
 pub fn order_functions(program: &Program<'_>) -> [u16; 64]
     ensures { Ordered program.now.of.functions result }
 {
-    let mut order = search_all(program);
-    make_sure(&mut order[..program.of.functions]);
-    order
+    sure_front(search_all(program), program.of.functions)
 }
