@@ -19,7 +19,7 @@ pub fn put(a: &mut [u16], i: usize, x: usize)
     }
 }
 
-// Writes where each number stands in the order.
+// Writes where each number stands in the order. The two are apart since one is made for a single look at the other.
 fn invert(order: &[u16], places: &mut [u16]) {
     for (i, e) in order.iter().enumerate() {
         put(places, usize::from(*e), i);

@@ -48,7 +48,8 @@ fn deepen(program: &Program<'_>, found: &[Option<u32>; 64], level: u32) -> Optio
     grew.then_some(depth)
 }
 
-// Goes down level by level, until one leads to no other function: how many there are shows only then, so no `for` has them.
+// Goes down level by level, until one leads to no other function. How many there are shows only then: a `for` over levels would have an end of its
+// own, of which it would be shown that it is never reached.
 fn sound(program: &Program<'_>) -> [Option<u32>; 64]
     ensures { Sounded (program_of program.now.table.now) (found_in result) }
 {

@@ -13,7 +13,8 @@ ghost use Rattle.table.specs.Program.{program_of};
 pub use nodes::Sort;
 use table::Counts;
 
-// An accepted table and its counts.
+// An accepted table and its counts. Its readers take a node, an edge or a function by number, and ask that there is such a one: as values of their own
+// these would be made wherever a loop counts them, and taken apart to be stored.
 #[derive(Clone, Copy)]
 pub struct Program<'a> {
     pub table: &'a [u8],

@@ -17,7 +17,7 @@ pub enum Sort {
 }
 
 impl Program<'_> {
-    // The sort of node n.
+    // The sort of node n: the byte of an accepted table is one of four, so that `TryFrom` would only ask what to do with others.
     #[tactic(auto, using(table::proofs::Ready::sort_given))]
     pub fn sort(&self, n: usize) -> Sort
         requires { n < self.now.of.nodes }
@@ -69,8 +69,8 @@ impl Program<'_> {
         record::field_a(self.table, self.of.functions + n)
     }
 
-    // The target of node n: 0 where it is no call or spawn, as in the program of the specs. Its callers ask first which of the two a node
-    // is, which an `Option` would not tell.
+    // The target of node n: 0 where it is no call or spawn, as in the program of the specs, of which this promises the number. Some callers read
+    // it before they ask what the node is, and the others ask that anyhow: an `Option` would be opened at each of them.
     pub fn target(&self, n: usize) -> usize
         requires { n < self.now.of.nodes }
         ensures { (result ≡ (program_of self.now.table.now).target n) × (result < self.now.of.functions) }

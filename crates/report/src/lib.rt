@@ -1,4 +1,4 @@
-// Answers as text on a writer, in document 01's words. What is printed is tested; of the counts and of single numbers and refusals it is proved.
+// Answers as text on a writer, in document 01's words. What is printed is tested; of what is left of a buffer and of single sizes it is proved.
 #![tactic(auto)]
 
 ghost use Rattle.std.specs.Prelude.{◌≡◌, ◌==◌, ◌++◌, if◌then◌else◌, Some, codes, decimal, count_by};
@@ -29,7 +29,8 @@ pub fn checked<W: Write>(out: &mut W, answer: Result<Counts, Refused>) -> io::Re
     }
 }
 
-// A size as it is written to a buffer: its bytes, or 65,536 where it is unbounded.
+// A size as it is written to a buffer: its bytes, or 65,536 where it is unbounded. A number of a buffer may be no size, as its old content is none, so it
+// is not the `Size` of the solver.
 #[derive(Clone, Copy)]
 struct Size(u32);
 

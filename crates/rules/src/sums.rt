@@ -24,7 +24,7 @@ pub enum Sum {
 }
 
 impl Sum {
-    // The kind of size that a sum starts from at a node, and of the size that it gives a function.
+    // The kind of size that a sum starts from at a node, and of the size that it gives a function: a number, as in `kinds`.
     pub(crate) fn kind(self) -> usize
         ensures { (result ≡ kind_for self) × (result ≤ 3) }
     {
@@ -35,7 +35,7 @@ impl Sum {
         }
     }
 
-    // The number of a node's sum among the entries.
+    // The number of a node's sum among the entries. An entry is its number, since a rule packs three of them into a word, in fixed memory.
     pub(crate) fn number(self, n: usize) -> usize
         requires { n < 512 }
         ensures { (result ≡ offset self + n) × (result < 3840) }

@@ -14,7 +14,7 @@ pub fn chosen(choice: &[u8], n: usize) -> u8
     choice.get(n).copied().unwrap_or(0)
 }
 
-// Whether size k of node n rests on its target: of a call each size, of a merged spawn Total and Post, and if it is unguarded each.
+// Whether size k of node n rests on its target, where k is 0 for Total to 3 for Through, as in `kinds`: of a call each size, of a merged spawn Total and Post, and if it is unguarded each.
 #[tactic(auto, unfolding(crate::specs::System::takes))]
 pub fn rests_on_target(program: &Program<'_>, choice: &[u8], n: usize, k: usize) -> bool
     requires { n < program.now.of.nodes }

@@ -9,7 +9,7 @@ use program::Program;
 use size::Size;
 use solver::solution::Solution;
 
-// Condition 1: whether Post of the target of every spawn is 0.
+// Condition 1: whether Post of the target of every spawn is 0. Post is size 1 of four, by number as in `rules`.
 fn posts_zero(program: &Program<'_>, sizes: &[Size; 2304]) -> bool
     ensures { Tells result (PostsBelow (program_of program.now.table.now) (at (map value_of sizes.now)) program.now.of.nodes) }
 {

@@ -65,7 +65,7 @@ impl<'a> Run<'a> {
         }
     }
 
-    // Its choice: 0 where no byte is given.
+    // Its choice: 0 where no byte is given. By `push`, since a vector that is collected may find no room.
     pub fn choice(&self) -> ArrayVec<u8, 65536>
         ensures { length result.items ≡ self.now.length }
     {

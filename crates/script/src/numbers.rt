@@ -19,7 +19,7 @@ impl<'a> Numbers<'a> {
         numbers
     }
 
-    // The next number, modulo 65,536: 0 where there is none.
+    // The next number, modulo 65,536: 0 where there is none. `parse` refuses what is larger.
     pub fn number(&mut self) -> u16 {
         let rest = self.rest;
         let is_end = |byte: &u8| !byte.is_ascii_digit();

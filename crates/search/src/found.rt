@@ -8,8 +8,9 @@ use crate::Work;
 use crate::verdict::Verdict;
 use program::Program;
 
-// The verdicts of nodes, in the bytes that a choice has for them, and the sizes of that choice, each with room for the largest table; and the
-// work that it took to find them. It is handed out by value, and there is no heap.
+// The verdicts of nodes, in the bytes that a choice has for them, and the sizes of that choice, each with room for the largest table, as document 01
+// has them (`[0; 2304]`): how much of them is meant the program says. And the work that it took to find them. What holds of it (`Holds`, `Safe`)
+// speaks of the program too and gives sizes, so that it stands in contracts.
 #[derive(Drop)]
 pub struct Found {
     pub verdicts: [u8; 512],

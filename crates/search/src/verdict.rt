@@ -25,7 +25,8 @@ impl From<Verdict> for u8 {
 }
 
 impl Verdict {
-    // Whether a spawn with this byte waits for the verdict: it has the one below.
+    // Whether a spawn with this byte waits for the verdict: it has the one below. By bytes, as a choice has them: turned into a verdict at each look
+    // it would be no plainer.
     pub(crate) fn is_next(self, byte: u8) -> bool
         ensures { result ≡ eqb byte (level self - 1) }
     {

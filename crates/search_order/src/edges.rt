@@ -46,7 +46,7 @@ fn link_edges(program: &Program<'_>) -> Links {
 }
 
 // A search as far as it has come: the edges that are left, those on the way at the order's start, and those that have their place at its
-// end, from `place` on. The edges on the way have no place yet, so there is room for them below it.
+// end, from `place` on. The edges on the way have no place yet, so there is room for them below it: one array in fixed memory serves for both.
 #[derive(Drop)]
 struct Search<'a> {
     program: &'a Program<'a>,

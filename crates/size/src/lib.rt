@@ -4,6 +4,8 @@
 ghost use Rattle.std.specs.Prelude.{◌≡◌, ◌+◌, eqb, max};
 ghost use Rattle.size.specs.Size.{size_of, value_of, unbounded};
 
+// Sizes are compared by the numbers that they are written as: what `Bytes` holds is any `u32`, of which those past the ceiling are unbounded, and a derived
+// comparison would tell these apart. Names and matches are those of document 01's last list.
 #[derive(Clone, Copy)]
 pub enum Size {
     Bytes(u32),

@@ -7,7 +7,9 @@ use listed::room::{with_rules, with_widest};
 use solver::solution::Solution;
 use sync::Known;
 
-// A table that is prepared for trials: what is known of it, and the rules of its widest choice, into which the crates above don't look.
+// A table that is prepared for trials: what is known of it, and the rules of its widest choice, into which the crates above don't look. That it is
+// (`PreparedFor`) stands in contracts, since it gives paths and rules and is no proposition, and so does what sizes start from (`StartsFor`), which is
+// of a choice besides, another one in each trial.
 #[derive(Clone, Copy)]
 pub struct Prepared<'a> {
     pub known: Known<'a>,

@@ -22,8 +22,9 @@ impl Rise {
     };
 }
 
-// How each entry rose last. The clock counts the rises; its last time stands for all later ones, so that a stamp has 16 bits, and less room
-// is cleared for each choice.
+// How each entry rose last. The clock counts the rises, from 1 on, so that 0 is the stamp of one that never rose: an option of it would be a third
+// larger, and all of this is cleared for each choice. Its last time stands for all later ones, so that 16 bits do. Causes go by number: they
+// lead from any entry to any other, and there is no heap.
 #[derive(Drop)]
 pub(crate) struct Causes {
     pub rises: [Rise; 3840],
@@ -120,7 +121,7 @@ impl Causes {
         }
         let cause = self.later(y, z);
         self.rises[x] = Rise {
-            cause: Some(cause as u16), // one of 3,840 entries, so that `as` loses nothing
+            cause: Some(cause as u16), // one of 3,840 entries: `try_from` would test what is known, at every rise
             stamp: self.clock,
         };
         sum

@@ -10,7 +10,9 @@ ghost use Rattle.solver.specs.Rounds.{rule_form, AmongSizes};
 use crate::rule::Rule;
 use size::Size;
 
-// The values of entries by number, 2,304 sizes and then three sums for each of 512 nodes, and the turns over the rules that it took.
+// The values of entries by number, 2,304 sizes and then three sums for each of 512 nodes, in the four arrays that document 01 names, and the turns
+// over the rules that it took. That a number is an entry's is asked of each function and is in no type: of a word's bits it is known from the
+// list, and a type for it would have to test them at each look at a rule.
 #[derive(Drop)]
 pub struct Solution {
     sizes: [Size; 2304],

@@ -14,7 +14,7 @@ pub enum Kind {
     Edge,
 }
 
-// Where its kind is listed.
+// Where its kind is listed. An `Option` and no `TryFrom`, since nobody would read why a byte is no kind.
 pub fn listed_kind(t: &[u8], r: usize) -> Option<Kind>
     ensures { IsListed result (kind_of t.now r) }
 {

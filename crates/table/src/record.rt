@@ -40,6 +40,7 @@ pub fn sort(t: &[u8], r: usize) -> u8
     byte(t, r, 1)
 }
 
+// The first two fields are numbers that callers count and index with, so they are given as such.
 #[tactic(auto, unfolding(crate::specs::Record::field_a))]
 pub fn field_a(t: &[u8], r: usize) -> usize
     ensures { (result ≡ field_a t.now r) × (result < 65536) }
