@@ -1,4 +1,4 @@
-// The calls of document 01, with their answers as text.
+// The calls of document 01, with their answers as text. Each takes where it prints and what the call takes: a value of both would be made for one call.
 use report::{OLD_SIZE, OLD_VERDICT, kept};
 use std::io;
 use std::io::Write;

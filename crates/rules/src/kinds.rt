@@ -120,7 +120,7 @@ fn total_edge_rule(program: &Program<'_>, e: usize) -> Rule
     }
 }
 
-// Rule i of a kind, if it is there.
+// Rule i of a kind, if it is there. The kinds are those of the specs, which go by cases too.
 pub fn numbered(kind: Kind, known: &Known<'_>, choice: &[u8], i: usize) -> Option<Rule>
     requires { i < count_of known.now.program.of kind }
     ensures { Gives (on_at choice.now known.now kind i) (form_at known.now.program.table.now kind i) result }

@@ -1,4 +1,4 @@
-// Which sizes of calls and merged spawns rest on their targets.
+// Which sizes of calls and merged spawns rest on their targets. A choice stands beside the program: it is the caller's, and one program has many.
 ghost use Rattle.std.specs.Prelude.{◌≡◌, ◌<◌, ◌≤◌};
 ghost use Rattle.table.specs.Program.{program_of};
 ghost use Rattle.size.specs.Numbers.{at};

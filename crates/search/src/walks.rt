@@ -1,4 +1,5 @@
-// The two walks over the spawns, in the preference order.
+// The two walks over the spawns, in the preference order. A walk has one verdict, which stands beside the problem and not in it: both walks are of one
+// problem.
 ghost use Rattle.std.specs.Prelude.{◌≡◌, ◌≤◌, length, replicate};
 ghost use Rattle.size.specs.Numbers.{at};
 ghost use Rattle.sizes.specs.Call.{choice_of};

@@ -1,4 +1,5 @@
-// The sizes of a choice. Document 01, "Sizes and their rules".
+// The sizes of a choice. Document 01, "Sizes and their rules". A table, a choice and a buffer stand beside one another in this call and in those of the
+// crates above, as the C interface hands them in.
 #![tactic(auto)]
 
 pub mod admit;

@@ -1,4 +1,5 @@
-// A set of nodes in eight words: node n is bit n mod 64, lowest first, of word n div 64.
+// A set of nodes in eight words: node n is bit n mod 64, lowest first, of word n div 64. That a node has a place in them is asked, as it is known of the
+// nodes of a program, which are numbers.
 ghost use Rattle.std.specs.Prelude.{◌≡◌, ◌||◌, ℕ, ◌<◌, eqb};
 ghost use Rattle.sync.specs.Words.{bit, member};
 

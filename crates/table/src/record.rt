@@ -1,4 +1,5 @@
-// The fields of one record. Every reader is total: past the table's end there are only zeros.
+// The fields of one record. Every reader is total: past the table's end there are only zeros. A record is a table and a number here: as one value it
+// would be made anew at each reader of `program`, which has the number of a node.
 ghost use Rattle.std.specs.Prelude.{◌≡◌, ◌<◌};
 ghost use Rattle.table.specs.Record.{byte_of, number_of, kind_of, sort_of, field_a, field_b, field_c};
 
