@@ -55,7 +55,7 @@ fn number(order: &mut [u16])
 }
 
 // Makes sure that the entries are an order of the numbers below their count: where they are not, each number gets its own place.
-fn make_sure(order: &mut [u16])
+pub fn make_sure(order: &mut [u16])
     requires { length order.old ≤ 1024 }
     ensures order_len_unchanged { length order.new ≡ length order.old }
     ensures ordered { Ordered (length order.old) order.new }
