@@ -19,6 +19,7 @@ use verdict::Verdict;
 pub use work::Work;
 
 // What two walks come to for a prepared table.
+#[tactic(auto, using(preference::proofs::Firsts::order_cut))]
 pub fn find(prepared: &Prepared<'_>) -> Found
     requires { PreparedFor prepared.now }
     ensures { Searched prepared.now result }
