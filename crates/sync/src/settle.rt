@@ -6,7 +6,7 @@ ghost use Rattle.sync.specs.Search.{SweptAll, blocked_call};
 use crate::Known;
 use crate::collect::{firsts, syncs};
 use crate::gather::grown;
-use crate::search::reach;
+use crate::search::PathSearch;
 use crate::words::has;
 use program::Program;
 use search_order::edges::order_edges;
@@ -39,15 +39,20 @@ pub(crate) fn settle(program: Program<'_>) -> Known<'_>
 {
     let order = order_edges(&program);
     let from = firsts(&program);
-    let mut synchronising = syncs(&program);
-    let mut reached = reach(&program, &order, synchronising, from);
-    while let Some(more) = with_blocked_calls(&program, reached, synchronising) {
-        reached = reach(&program, &order, more, from);
-        synchronising = more;
+    // The search avoids the synchronising nodes that were found so far.
+    let mut search = PathSearch {
+        program,
+        order: &order,
+        avoid: syncs(&program),
+    };
+    let mut reached = search.reach(from);
+    while let Some(more) = with_blocked_calls(&program, reached, search.avoid) {
+        search.avoid = more;
+        reached = search.reach(from);
     }
     Known {
         program,
-        synchronising,
+        synchronising: search.avoid,
         reached,
     }
 }
