@@ -38,7 +38,7 @@ pub fn check(t: &[u8]) -> Result<Counts, Refused>
     ensures { outcome_of result ≡ outcome t.now }
 {
     let n = t.len() / 8;
-    let of = tally(t, n);
+    let of = tally(t);
     let counted = Counted { t, of };
     pass(Cause::Length, (t.len() % 8 != 0).then_some(n))?;
     pass(Cause::Unlisted, first(n, |r| is_unlisted(t, r)))?;

@@ -2,7 +2,6 @@
 ghost use Rattle.std.specs.Prelude.{◌≡◌, ◌≤◌};
 ghost use Rattle.table.specs.Below.{count, earliest};
 ghost use Rattle.table.specs.Kind.{number_of_kind};
-ghost use Rattle.table.specs.Record.{records};
 ghost use Rattle.table.specs.Checks.{too_many};
 ghost use Rattle.table.specs.Answer.{CountsOf};
 ghost use Rattle.table.specs.Scan.{FirstBy, of_kind, surplus_of};
@@ -24,11 +23,12 @@ pub(crate) fn first_surplus(t: &[u8], kind: Kind, limit: usize, n: usize) -> Opt
     (0..n).filter(|r| is_of(t, *r, kind)).nth(limit)
 }
 
-// How many of the n records are of each kind.
-pub(crate) fn tally(t: &[u8], n: usize) -> Counts
-    requires { n ≡ records t.now }
+// How many of the records are of each kind.
+#[tactic(auto, unfolding(crate::specs::Record::functions, crate::specs::Record::nodes, crate::specs::Record::edges))]
+pub(crate) fn tally(t: &[u8]) -> Counts
     ensures { CountsOf t.now result }
 {
+    let n = t.len() / 8;
     Counts {
         functions: count_kind(t, Kind::Function, n),
         nodes: count_kind(t, Kind::Node, n),

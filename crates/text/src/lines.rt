@@ -36,26 +36,25 @@ impl Text {
         }
     }
 
-    // The four sizes that stand first.
+    // The four sizes of a function or a node, by kind.
     #[tactic(auto, unfolding(crate::specs::Listing::four_fields))]
-    fn push_four(&mut self, sizes: &[u32])
-        requires room { length self.old.0.bytes + 84 ≤ ROOM }
-        requires four { 4 ≤ length sizes.now }
-        ensures appended { self.new.0.bytes ≡ self.old.0.bytes ++ four_fields (at sizes.now) }
+    fn push_four(&mut self, sizes: [u32; 4])
+        requires { length self.old.0.bytes + 84 ≤ ROOM }
+        ensures appended { self.new.0.bytes ≡ self.old.0.bytes ++ four_fields (at sizes) }
         ensures room { length self.new.0.bytes ≤ length self.old.0.bytes + 84 }
     {
-        self.push_size(sizes[0]);
-        self.push_size(sizes[1]);
-        self.push_size(sizes[2]);
-        self.push_size(sizes[3]);
+        let [total, post, pre, through] = sizes;
+        self.push_size(total);
+        self.push_size(post);
+        self.push_size(pre);
+        self.push_size(through);
     }
 
-    // The line of function f, whose sizes stand first.
+    // The line of function f.
     #[tactic(auto, unfolding(crate::specs::Listing::function_line))]
-    pub(crate) fn push_function(&mut self, f: usize, sizes: &[u32])
-        requires room { length self.old.0.bytes + 107 ≤ ROOM }
-        requires four { 4 ≤ length sizes.now }
-        ensures appended { self.new.0.bytes ≡ self.old.0.bytes ++ function_line (at sizes.now) f }
+    pub(crate) fn push_function(&mut self, f: usize, sizes: [u32; 4])
+        requires { length self.old.0.bytes + 107 ≤ ROOM }
+        ensures appended { self.new.0.bytes ≡ self.old.0.bytes ++ function_line (at sizes) f }
         ensures room { length self.new.0.bytes ≤ length self.old.0.bytes + 107 }
     {
         self.push("F ");
@@ -64,12 +63,11 @@ impl Text {
         self.push("\n");
     }
 
-    // The line of spawn n, likewise.
+    // The line of spawn n.
     #[tactic(auto, unfolding(crate::specs::Listing::spawn_line))]
-    pub(crate) fn push_spawn(&mut self, n: usize, verdict: u8, sizes: &[u32])
-        requires room { length self.old.0.bytes + 117 ≤ ROOM }
-        requires four { 4 ≤ length sizes.now }
-        ensures appended { self.new.0.bytes ≡ self.old.0.bytes ++ spawn_line verdict (at sizes.now) n }
+    pub(crate) fn push_spawn(&mut self, n: usize, verdict: u8, sizes: [u32; 4])
+        requires { length self.old.0.bytes + 117 ≤ ROOM }
+        ensures appended { self.new.0.bytes ≡ self.old.0.bytes ++ spawn_line verdict (at sizes) n }
         ensures room { length self.new.0.bytes ≤ length self.old.0.bytes + 117 }
     {
         self.push("S ");

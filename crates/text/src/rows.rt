@@ -1,10 +1,26 @@
 // The lines of all functions, and of all spawns.
 ghost use Rattle.std.specs.Prelude.{[], ◌+◌, ◌*◌, ◌<◌, ◌≤◌, ◌≡◌, ◌++◌, length};
 ghost use Rattle.text.specs.Listing.{joined};
-ghost use Rattle.text.specs.Chosen.{function_text, node_text, text_of};
+ghost use Rattle.text.specs.Chosen.{four_at, function_text, node_text, text_of};
 
 use crate::chosen::Chosen;
 use crate::text::{ROOM, Text};
+
+impl Chosen<'_> {
+    // The four sizes at a place: functions stand first, then nodes.
+    fn four(&self, place: usize) -> [u32; 4]
+        requires { place < self.now.program.of.functions + self.now.program.of.nodes }
+        ensures { result ≡ four_at self.now place }
+    {
+        let at = 4 * place;
+        [
+            self.sizes[at],
+            self.sizes[at + 1],
+            self.sizes[at + 2],
+            self.sizes[at + 3],
+        ]
+    }
+}
 
 #[tactic(auto, using(crate::proofs::Joining::rows))]
 impl Text {
@@ -14,7 +30,7 @@ impl Text {
         ensures room { length self.new.0.bytes ≤ length self.old.0.bytes + 107 * chosen.now.program.of.functions }
     {
         for f in 0..chosen.program.of.functions {
-            self.push_function(f, &chosen.sizes[4 * f..]);
+            self.push_function(f, chosen.four(f));
         }
     }
 
@@ -26,8 +42,8 @@ impl Text {
         ensures room { length self.new.0.bytes ≤ length self.old.0.bytes + 117 }
     {
         if chosen.program.is_spawn(n) {
-            let at = 4 * (chosen.program.of.functions + n);
-            self.push_spawn(n, chosen.verdicts[n], &chosen.sizes[at..]);
+            let sizes = chosen.four(chosen.program.of.functions + n);
+            self.push_spawn(n, chosen.verdicts[n], sizes);
         }
     }
 
