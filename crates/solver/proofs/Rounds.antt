@@ -112,8 +112,8 @@ module _ {rules : List ℕ} {v₀ : ℕ → ℕ} {k₀ : ℕ → ℕ} {v : ℕ �
       up = omega (arith, rise risen)
 
 -- no rule is left in the turn
-pub turn_over : {rules : List ℕ} {v₀ v : ℕ → ℕ} {k₀ k : ℕ → ℕ} {i end last : ℕ} → Turn rules v₀ k₀ v k i end last → (length rules ≤ i) ⊎ (i ≡ end) → Turned rules v₀ k₀ v k last
-turn_over {rules} {v₀} {v} {k₀} {k} {i} {end} {last} turn q = record {
+pub turn_over : {rules : List ℕ} {v₀ v : ℕ → ℕ} {k₀ k : ℕ → ℕ} {i end last given : ℕ} → Turn rules v₀ k₀ v k i end last → (length rules ≤ i) ⊎ (i ≡ end) → given ≡ last → Turned rules v₀ k₀ v k given
+turn_over {rules} {v₀} {v} {k₀} {k} {i} {end} {last} turn q is = rw is record {
   places = omega arith;
   ends = omega arith;
   lasts = omega (arith, turn.places, turn.ends, turn.lasts);
@@ -144,17 +144,14 @@ settling_start {rules} {v} {k} sized none_is = record {
 module _ {rules : List ℕ} {from : ℕ → ℕ} {v : ℕ → ℕ} {k : ℕ → ℕ} where
   module _ {w : ℕ → ℕ} {l : ℕ → ℕ} {stop turns last : ℕ} (s : Settling rules from v k stop turns) (turn : Turned rules v k w l last) where
     -- something has risen: once more
-    pub settling_on : {next : ℕ} → 0 < last → next ≡ last → Settling rules from w l next (turns + 1)
-    settling_on {next} n e = record {
+    pub settling_on : 0 < last → Settling rules from w l last (turns + 1)
+    settling_on n = record {
       ok = turn.ok from s.ok;
       above = λ x. omega (arith, s.above x, turn.up x);
-      stops = omega (arith, turn.lasts);
-      held = λ j a b. turn.held j (omega arith) b (inl b);
+      stops = turn.lasts;
+      held = λ j a b. turn.held j a b (inl b);
       few = omega (arith, s.few, turn.falls);
     }
-
-    pub settling_less : 0 < last → room entry_count w < room entry_count v
-    settling_less n = omega (arith, turn.falls)
 
     -- nothing has risen: all rules hold
     pub settled : last ≡ 0 → Solves (item_form rules (length rules) from) w

@@ -1,3 +1,4 @@
+use Rattle.std.proofs.Common.{rules}
 use native.Mathlib.Omega.{arith}
 use mathlib.Core.Logic.{inl, inr}
 use Rattle.solver.proofs.Rounds.{head_low, turn_held, turn_rose, turn_over}
@@ -14,10 +15,10 @@ loop-i-preserved c =
       | else-apply w ↦ turn_held L.invariant (omega (arith, c.if-i-end.false)) r is (rw w.if-apply.false at c.apply.ensures) (omega arith) (omega arith)
     ]
 
-pub returns : goal.returns
-returns c =
+pub returns-clause-turned : goal.returns-clause-turned
+returns-clause-turned c =
     rw c.begin_turn.ensures
     (elim c.loop-i-test.branch [
-      | else-loop-i-test w ↦ turn_over c.loop-i.invariant (inl w.loop-i-test.false)
-      | then-loop-i-test+then-i-end w ↦ turn_over c.loop-i.invariant (inr w.if-i-end.true)
+      | else-loop-i-test w ↦ turn_over c.loop-i.invariant (inl w.loop-i-test.false) (search rules)
+      | then-loop-i-test+then-i-end w ↦ turn_over c.loop-i.invariant (inr w.if-i-end.true) (search rules)
     ])
