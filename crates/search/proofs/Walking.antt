@@ -1,10 +1,8 @@
 -- One spawn more on a walk: what becomes of its verdict.
-use Rattle.std.proofs.Common.{◌≡◌, ℕ, suc, ◌+◌, ◌-◌, ◌<◌, ◌≤◌, Bool, true, false, cond, ◌⊎◌, List, length, map, set, take, drop, ◌++◌, sym, refl, ap, ◌∙◌, inl, inr, ⊎_elim, eq-or-lt_of_le, arith, get_or-set_other, length-set, get_or-set_same, eq-eqb, ne_eqb, eqb, eqb-true}
+use Rattle.std.proofs.Common.{◌≡◌, ℕ, suc, ◌+◌, ◌-◌, ◌<◌, ◌≤◌, Bool, true, false, cond, ◌⊎◌, List, length, map, set, sym, refl, ap, ◌∙◌, inl, inr, ⊎_elim, eq-or-lt_of_le, arith, get_or-set_other, length-set, get_or-set_same, eq-eqb, ne_eqb, eqb, eqb-true}
 use Rattle.std.proofs.lemmas.Bool.{eqb-false}
 use native.Mathlib.Decide.{ℕ_discrete}
 use Rattle.std.proofs.lemmas.List.{get_or-map}
-use Rattle.std.proofs.lemmas.List.Edits.{map_over_more}
-use Rattle.std.proofs.lemmas.Grind.{get_or_default_zero}
 use Rattle.table.specs.Program.{Program}
 use Rattle.table.proofs.Laws.{well_formed}
 use Rattle.size.specs.Numbers.{at}
@@ -173,10 +171,6 @@ module _ (p : Prepared) (spawns : List ℕ) (o : InOrder (known_program p.known)
   -- it does not: it stays
   pub next_past : eqb (choice_of old (at spawns i)) (level v - 1) ≡ false → {from : ℕ → ℕ} → Walked (known_program p.known) (level v) i (at spawns) from (choice_of old) → Walked (known_program p.known) (level v) (i + 1) (at spawns) from (choice_of old)
   next_past d {from} w = walked_past (known_program p.known) (level v) (at spawns) from i (choice_of old) exists w (λ q. eqb-false _ _ d (omega arith))
-
--- one byte more is raised
-pub raised_more : (k : ℕ) (old new : List ℕ) (i x : ℕ) → i < length old → i < length new → new ≡ map (raised_to k) (take i old) ++ drop i old → x ≡ raised_to k (choice_of new i) → set new i x ≡ map (raised_to k) (take (i + 1) old) ++ drop (i + 1) old
-raised_more k old new i x h l e r = rw r (map_over_more (raised_to k) old new i (choice_of new i) h e (sym (get_or_default_zero new i _ l)))
 
 -- unmerged everywhere is safe, since it has sizes
 pub unmerged_start : {p : Prepared} {c : ℕ → ℕ} {s : List ℕ} → PreparedFor p → Unmerged (known_program p.known) c → Holds p c s → Safe (known_program p.known) c

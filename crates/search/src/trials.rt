@@ -16,15 +16,10 @@ use sizes::find::write;
 use sizes::trials::{Prepared, find_from};
 
 // The verdicts, with this one for each that waits for it.
-#[tactic(auto, using(crate::proofs::Walking::raised_more))]
 fn raised(verdicts: &[u8; 512], verdict: Verdict) -> [u8; 512]
     ensures { result ≡ map (raised_to (level verdict)) verdicts.now }
 {
-    let mut all = *verdicts;
-    for byte in &mut all {
-        *byte = verdict.raise(*byte);
-    }
-    all
+    verdicts.map(|byte| verdict.raise(byte))
 }
 
 impl Found {
