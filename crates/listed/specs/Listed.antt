@@ -159,9 +159,9 @@ pub record Lists (S : Given) (rules : List ℕ) : Type 0 where
   pub each : (j : ℕ) → j < length rules → (r : RuleOf S) × Says (at rules j) (form_of r)
   pub all : (r : RuleOf S) → (j : ℕ) × (j < length rules) × Says (at rules j) (form_of r)
 
--- The words are the rules of a choice; there are no more of them than places.
+-- The words are the rules of a choice; there are no more of them than the largest table can have.
 pub record RulesFor (choice : List ℕ) (known : Known) (rules : List ℕ) : Type 0 where
-  pub few : length rules ≤ slots known.program.of
+  pub few : length rules ≤ most_slots
   pub lists : Lists (given choice known) rules
 
 -- and those of the widest choice

@@ -2,7 +2,7 @@
 ghost use Rattle.std.specs.Prelude.{◌≡◌, ℕ, ◌+◌, ◌-◌, ◌*◌, ◌<◌, ◌≤◌, []};
 ghost use Rattle.arrayvec.specs.ArrayVec.{array_vec_len};
 ghost use Rattle.listed.specs.Listed.{node_kind, node_number, edge_kind, function_kind, places_of, slots, kind_at, number_at, place_at, blocks, on_in, form_in, RoomFor, WordFor, Listed, Lengthens, RulesFor};
-ghost use Rattle.rules.specs.Numbered.{count_of, Gives};
+ghost use Rattle.rules.specs.Numbered.{count_of};
 
 use crate::source::Source;
 use arrayvec::ArrayVec;
@@ -82,7 +82,8 @@ fn of_function(c: usize) -> Kind
 }
 
 impl Group {
-    // The q-th of these places, counted from the last one where rules run against the edges.
+    // The q-th of these places, counted from the last one where rules run against the edges. They are turned round by hand: an iterator in
+    // either direction would be a parameter of `list`, and its contract would have to speak of what that runs over.
     fn place(self, places: &Range<usize>, q: usize) -> usize
         requires { places.now.start + q < places.now.end }
         ensures { result ≡ place_at self places.now.start places.now.end q }
@@ -119,25 +120,17 @@ impl Source<'_> {
         }
     }
 
-    // The rule at place i of a group, if it is there.
-    fn rule_at(&self, group: Group, i: usize) -> Option<Rule>
-        requires { i < places_of self.now.known.now.program.of group }
-        ensures { Gives (on_in self.now (kind_at group i) (number_at self.now.orders.now group i)) (form_in self.now (kind_at group i) (number_at self.now.orders.now group i)) result }
-    {
-        let slot = self.slot(group, i);
-        numbered(slot.kind, self.known, self.choice, slot.number)
-    }
-
-    // That rule as a word. No list stands here, so that there is one such function for lists of all sizes, and what it calls is put into it:
-    // with a rule handed to the list a large table took a tenth longer.
+    // The word of the rule at place i of a group, if it is there. No list stands here, so that there is one such function for lists of all
+    // sizes, and what it calls is put into it: with a rule handed to the list a large table took a tenth longer.
     fn word_at(&self, group: Group, i: usize) -> Option<u64>
         requires { i < places_of self.now.known.now.program.of group }
         ensures { WordFor self.now group i result }
     {
-        self.rule_at(group, i).map(Rule::packed)
+        let slot = self.slot(group, i);
+        numbered(slot.kind, self.known, self.choice, slot.number).map(Rule::packed)
     }
 
-    // Lists the rules of a group at these places.
+    // Lists the rules of a group at these places. The library's `extend` answers an error where the vector is full, which can't come here.
     fn list<const N: usize>(&self, group: Group, places: Range<usize>, rules: &mut ArrayVec<u64, N>)
         requires places_within { (places.start ≤ places.end) × (places.end ≤ places_of self.now.known.now.program.of group) }
         requires room { RoomFor (array_vec_len rules.old + (places.end - places.start)) N }
