@@ -67,7 +67,7 @@ pub fn make_sure(order: &mut [u16])
     }
 }
 
-// Makes sure of the order in the first entries of an array.
+// Makes sure of the order in the first entries of an array, as many as the program has: its count is kept there alone.
 #[tactic(auto, using(crate::proofs::Orders::front_ordered))]
 pub fn sure_front<const N: usize>(order: [u16; N], count: usize) -> [u16; N]
     requires { (count ≤ N) × (N ≤ 1024) }
