@@ -36,7 +36,7 @@ fn fill<const N: usize>(
 }
 
 // Lists them in N words, and hands them to a closure. With known, choice and widest as one value, and these as its methods, the proofs
-// close, but the best choice of a small table took 0.018 ms in place of 0.011.
+// close, but the best choice of a small table took 0.023 ms in place of 0.014.
 fn in_words<const N: usize, S, R, F: FnOnce(&mut S, &[u64]) -> R>(
     known: &Known<'_>,
     choice: &[u8],
