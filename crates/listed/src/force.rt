@@ -8,7 +8,8 @@ use rules::targets::rests_on_target;
 use solver::rule::Rule;
 use sync::Known;
 
-// Whether a choice has the rule that one of those words says: only the sizes of nodes rest on it.
+// Whether a choice has the rule that one of those words says: only the sizes of nodes rest on it. Which size of a node that is, the head says by
+// number, as in `kinds` of `rules`.
 #[tactic(auto, unfolding(crate::specs::Listed::in_force))]
 fn has_word(program: &Program<'_>, choice: &[u8], word: u64) -> bool
     ensures { result ≡ in_force choice.now program.now word }

@@ -7,7 +7,8 @@ use crate::list::list_rules;
 use arrayvec::ArrayVec;
 use sync::Known;
 
-// How many words they can take: as many as the widest choice has rules, where these are at hand, and else one for each place.
+// How many words they can take: as many as the widest choice has rules, where these are at hand, and else one for each place. Here and in `fill` it is
+// asked whether they are: a closure for the one or the other could not be generic in the size of the list.
 fn room(known: &Known<'_>, widest: Option<&[u64]>) -> usize
     ensures { result ≡ needed known.now widest.entry }
 {
@@ -56,7 +57,8 @@ fn in_words<const N: usize, S, R, F: FnOnce(&mut S, &[u64]) -> R>(
 
 // Hands a closure the rules of a table and a choice, and answers what it does. Those of the widest choice may be lent: what they have is
 // not looked for again. Few rules get a small list: a large one would take longer to clear than all the rest. What the closure changes is
-// lent to it: with solutions answered, and so copied, a call on a small table took twice as long, and with lists by value four times.
+// lent to it: with solutions answered, and so copied, a call on a small table took twice as long, and with lists by value four times. A value of
+// that and the closure would have the same parameters and clauses.
 pub fn with_rules<S, R, F: FnOnce(&mut S, &[u64]) -> R>(
     known: &Known<'_>,
     choice: &[u8],

@@ -54,7 +54,8 @@ fn row<W: Write>(out: &mut W, letter: char, number: usize, sizes: &[u32]) -> io:
     writeln!(out)
 }
 
-// Rows for the fours of sizes behind the first so many, and for so many of them, as far as there are any.
+// Rows for the fours of sizes behind the first so many, and for so many of them, as far as there are any: both numbers are the table's, and the buffer
+// may be shorter.
 fn rows<W: Write>(
     out: &mut W,
     letter: char,
