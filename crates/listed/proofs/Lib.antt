@@ -1,5 +1,4 @@
--- For the crates above: how many rules there can be, and that words which list them are solved as they are.
-pub mod Bounds
+-- For the crates above: words which list the rules are solved as they are.
 pub mod Worded
 -- How the promises come about.
 mod Listing

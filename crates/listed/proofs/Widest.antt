@@ -18,7 +18,7 @@ use Rattle.rules.specs.Choice.{unguarded}
 use Rattle.rules.specs.Rules.{total, through}
 use Rattle.rules.specs.System.{Form, RuleOf, kind_for, to, takes, target_form, form_of, start, step_on, end, total_node, total_edge, target_of}
 use Rattle.rules.specs.Entries.{offset}
-use Rattle.listed.specs.Listed.{given, everywhere, in_force, Says, RulesFor}
+use Rattle.listed.specs.Listed.{given, everywhere, in_force, Says, RulesFor, Widest}
 use Rattle.solver.specs.Words.{head_of}
 use Rattle.sync.specs.declared.Known.{Known}
 use Rattle.rules.specs.declared.sums.Sum.{Sum}
@@ -179,9 +179,9 @@ module _ {test : ℕ → Bool} {all : List ℕ} {i : ℕ} {rules : List ℕ} (d 
             let q = d.every j (omega (arith, n)) b in
             (q.0, omega (arith, q.1, long), old_at q.0 q.1 ∙ q.2)
 
-pub kept_lists : {choice : List ℕ} {known : Known} {all rules : List ℕ} → RulesFor everywhere known all → Kept (in_force choice known.program) all (length all) rules → RulesFor choice known rules
+pub kept_lists : {choice : List ℕ} {known : Known} {all rules : List ℕ} → Widest known all → Kept (in_force choice known.program) all (length all) rules → RulesFor choice known (length all) rules
 kept_lists {choice} {known} {all} {rules} l d = record {
-  few = omega (arith, l.few, d.few);
+  few = omega (arith, d.few);
   lists = record {
     each = λ m h.
         let q = d.each m h in

@@ -159,28 +159,28 @@ pub record Lists (S : Given) (rules : List ℕ) : Type 0 where
   pub each : (j : ℕ) → j < length rules → (r : RuleOf S) × Says (at rules j) (form_of r)
   pub all : (r : RuleOf S) → (j : ℕ) × (j < length rules) × Says (at rules j) (form_of r)
 
--- The words are the rules of a choice; there are no more of them than the largest table can have.
-pub record RulesFor (choice : List ℕ) (known : Known) (rules : List ℕ) : Type 0 where
-  pub few : length rules ≤ most_slots
+-- The words are the rules of a choice, and so many at most.
+pub record RulesFor (choice : List ℕ) (known : Known) (most : ℕ) (rules : List ℕ) : Type 0 where
+  pub few : length rules ≤ most
   pub lists : Lists (given choice known) rules
 
--- and those of the widest choice
+-- Those of the widest choice: no more than the largest table can have.
 abbrev pub Widest : Known → List ℕ → Type 0
-Widest = RulesFor everywhere
+Widest known = RulesFor everywhere known most_slots
 
 -- How many words the rules of a choice can take, where those of the widest one are at hand, or not.
 abbrev pub needed : Known → Option (Bor (List ℕ)) → ℕ
 needed known (Some all) = length all.now
 needed known None = slots known.program.of
 
--- A closure that is lent a state may be called at the rules of a choice,
-abbrev pub TakesRules : {F S R : Type 0} → List ℕ → Known → Once F (MutBor S × (Bor (List ℕ) × Unit {0})) (R × (MutBor S × Unit {0})) → F → S → Type 0
-TakesRules {F} {S} choice known g f s = (rules : Bor (List ℕ)) → RulesFor choice known rules.now → (state : MutBor S) → state.now ≡ s → g.pre f (state, (rules, tt))
+-- A closure that is lent a state may be called at the rules of a choice, so many at most,
+abbrev pub TakesRules : {F S R : Type 0} → List ℕ → Known → ℕ → Once F (MutBor S × (Bor (List ℕ) × Unit {0})) (R × (MutBor S × Unit {0})) → F → S → Type 0
+TakesRules {F} {S} choice known most g f s = (rules : Bor (List ℕ)) → RulesFor choice known most rules.now → (state : MutBor S) → state.now ≡ s → g.pre f (state, (rules, tt))
 
 -- and this is what it gave, and what it left.
-pub record GivenRules {F S R : Type 0} (choice : List ℕ) (known : Known) (g : Once F (MutBor S × (Bor (List ℕ) × Unit {0})) (R × (MutBor S × Unit {0}))) (f : F) (old new : S) (result : R) : Type 0 where
+pub record GivenRules {F S R : Type 0} (choice : List ℕ) (known : Known) (most : ℕ) (g : Once F (MutBor S × (Bor (List ℕ) × Unit {0})) (R × (MutBor S × Unit {0}))) (f : F) (old new : S) (result : R) : Type 0 where
   pub rules : Bor (List ℕ)
-  pub rules_for : RulesFor choice known rules.now
+  pub rules_for : RulesFor choice known most rules.now
   pub shown : MutBor S
   pub shows : shown.now ≡ old
   pub left : MutBor S

@@ -32,7 +32,7 @@ pub(crate) fn in_force<const N: usize>(
 )
     requires widest { Widest known.now all.now }
     requires room { (rules.old.items ≡ []) × RoomFor (length all.now) N }
-    ensures { RulesFor choice.now known.now rules.new.items }
+    ensures { RulesFor choice.now known.now (length all.now) rules.new.items }
 {
     for word in all {
         if has_word(&known.program, choice, *word) {

@@ -205,7 +205,7 @@ pub(crate) fn list_rules<const N: usize>(
     rules: &mut ArrayVec<u64, N>,
 )
     requires { (rules.old.items ≡ []) × RoomFor (slots known.now.program.of) N }
-    ensures { RulesFor choice.now known.now rules.new.items }
+    ensures { RulesFor choice.now known.now (slots known.now.program.of) rules.new.items }
 {
     let orders = order_all(&known.program);
     let source = Source {

@@ -69,8 +69,8 @@ module _ (choice : List ℕ) (known : Known) (looked : Looked known) (f : Soluti
       }
 
 -- from numbers that the choice derives
-pub found_from : (numbers : List ℕ) {choice rules : List ℕ} {known : Known} {f : Solution} → Looked known → RulesFor choice known rules → length numbers ≤ 2304 → DerivedFor known (at choice) (at numbers) → {from : ℕ → ℕ} → ((x : ℕ) → from x ≡ cap (at numbers x)) → Settles rules from f → FoundFor known (at choice) f
-found_from numbers {choice} {rules} {known} {f} looked r low d starts s =
+pub found_from : (numbers : List ℕ) {choice rules : List ℕ} {known : Known} {most : ℕ} {f : Solution} → Looked known → RulesFor choice known most rules → length numbers ≤ 2304 → DerivedFor known (at choice) (at numbers) → {from : ℕ → ℕ} → ((x : ℕ) → from x ≡ cap (at numbers x)) → Settles rules from f → FoundFor known (at choice) f
+found_from numbers {choice} {rules} {known} {most} {f} looked r low d starts s =
     found choice known looked f s r.lists (λ x h. starts x ∙ ap cap (get_or_past numbers x 0 (omega arith)))
     (record { each = λ x. rw starts (der_less (forms_of (given choice known)) (cap (at numbers x)) (omega arith) (d.each x)) })
 
