@@ -1,5 +1,5 @@
 -- What the lines of a script come to, one after another.
-use Rattle.std.specs.Prelude.{ℕ, ◌≡◌, ◌-◌, ◌/◌, [], ◌++◌, min, length, replicate}
+use Rattle.std.specs.Prelude.{ℕ, ◌≡◌, ◌-◌, ◌/◌, List, [], ◌++◌, min, length, take, drop}
 use Rattle.script.specs.declared.Line.{Line}
 use Rattle.script.specs.declared.Line.TheVariants.{Comment, Call, Table, Bytes, Records, Run}
 use Rattle.script.specs.declared.State.{State}
@@ -14,15 +14,22 @@ SameName old new = new.name.now ≡ old.name.now
 abbrev pub SameTable : State → State → Type 0
 SameTable old new = new.table.items ≡ old.table.items
 
--- How many pieces of so many bytes go behind those of the table, of the count that is asked for: it has room for 65,536 bytes.
-abbrev pub fitting : State → ℕ → ℕ → ℕ
-fitting old bytes count = min count ((65536 - length old.table.items) / bytes)
+abbrev pub SameLeft : State → State → Type 0
+SameLeft old new = new.left ≡ old.left
+
+-- Tables stand one after another in a room of 65,536 bytes, 0 at first: behind the bytes of a table stand those that longer ones left.
+abbrev pub behind : State → List ℕ
+behind s = drop (length s.table.items) s.left
+
+-- How many records go behind the bytes of the table, of the count that is asked for.
+abbrev pub fitting : State → ℕ → ℕ
+fitting old count = min count ((65536 - length old.table.items) / 8)
 
 -- What a line makes of what was said before it.
 abbrev pub Takes : State → Line → State → Type 0
-Takes old (Comment) new = SameCall old new × SameName old new × SameTable old new
-Takes old (Call call) new = (new.call.now ≡ call.now) × SameName old new × SameTable old new
-Takes old (Table name) new = SameCall old new × (new.name.now ≡ name.now) × (new.table.items ≡ [])
-Takes old (Bytes count) new = SameCall old new × SameName old new × (new.table.items ≡ old.table.items ++ replicate (fitting old 1 count) 0)
-Takes old (Records records) new = SameCall old new × SameName old new × (new.table.items ≡ old.table.items ++ records_before records (fitting old 8 records.count))
-Takes old (Run _) new = SameCall old new × SameName old new × SameTable old new
+Takes old (Comment) new = SameCall old new × SameName old new × SameTable old new × SameLeft old new
+Takes old (Call call) new = (new.call.now ≡ call.now) × SameName old new × SameTable old new × SameLeft old new
+Takes old (Table name) new = SameCall old new × (new.name.now ≡ name.now) × (new.table.items ≡ []) × (new.left ≡ old.table.items ++ behind old)
+Takes old (Bytes count) new = SameCall old new × SameName old new × (new.table.items ≡ old.table.items ++ take count (behind old)) × SameLeft old new
+Takes old (Records records) new = SameCall old new × SameName old new × (new.table.items ≡ old.table.items ++ records_before records (fitting old records.count)) × SameLeft old new
+Takes old (Run _) new = SameCall old new × SameName old new × SameTable old new × SameLeft old new

@@ -8,8 +8,9 @@
 //     2 0 0 0 0 512       512 plain nodes of function 0
 //     3 0 0 1 0 4 1 1     the edges 0-1, 1-2, 2-3, 3-4
 //
-// `+ N` adds N bytes of 0, and a line that begins with `#` says nothing. Numbers count modulo 65,536, each byte that is no
-// digit ends one, and one that is missing is 0. A table has at most 65,536 bytes, and what goes past them is left out.
+// `+ N` adds N bytes: what longer tables before it left where they go, and 0 where none was as long. A line that begins with
+// `#` says nothing. Numbers count modulo 65,536, each byte that is no digit ends one, and one that is missing is 0. A table
+// has at most 65,536 bytes, and what goes past them is left out.
 //
 // `? LENGTH BUFFER B0 B1 ..` is a run on the table: with a choice of LENGTH bytes, 0 where none is given, and a sizes
 // buffer of BUFFER numbers. Such as
@@ -21,7 +22,7 @@ mod input;
 mod numbers;
 mod records;
 
-ghost use Rattle.std.specs.Prelude.{◌≡◌, ◌-◌, [], ◌++◌, min, length, replicate};
+ghost use Rattle.std.specs.Prelude.{◌≡◌, [], ◌++◌, length, take, drop, replicate};
 ghost use Rattle.script.specs.Line.{ReadsAs};
 ghost use Rattle.script.specs.State.{Takes};
 
@@ -98,15 +99,22 @@ impl<'a> Line<'a> {
     }
 }
 
-// Puts so many bytes of 0 behind those of a table, as many as there is room for.
-fn put_zeros(table: &mut Table, count: u16)
-    ensures { table.new.items ≡ table.old.items ++ replicate (min count (65536 - length table.old.items)) 0 }
+// Puts so many bytes behind those of a table, as many as there is room for: those that tables before it left there.
+fn put_left(table: &mut Table, left: &[u8; 65536], count: u16)
+    ensures { table.new.items ≡ table.old.items ++ take count (drop (length table.old.items) left.now) }
 {
-    for _ in 0..count {
-        if table.try_push(0).is_err() {
-            return;
-        }
-    }
+    let behind = &left[table.len()..];
+    let more = behind.get(..usize::from(count)).unwrap_or(behind);
+    table.try_extend_from_slice(more).unwrap();
+}
+
+// Clears a table: its bytes are left.
+fn clear(table: &mut Table, left: &mut [u8; 65536])
+    ensures cleared { table.new.items ≡ [] }
+    ensures leaves { left.new ≡ table.old.items ++ drop (length table.old.items) left.old }
+{
+    left[..table.len()].copy_from_slice(table);
+    table.clear();
 }
 
 // What the lines up to some place of a script have said: the call of the runs, and the table with its name.
@@ -115,17 +123,20 @@ pub struct State<'a> {
     pub call: &'a [u8],
     pub name: &'a [u8],
     pub table: Table,
+    // what tables have left, each from the first byte on
+    left: [u8; 65536],
 }
 
 impl<'a> State<'a> {
     // What stands before the first line.
     pub fn new() -> State<'a>
-        ensures { result.table.items ≡ [] }
+        ensures { (result.table.items ≡ []) × (result.left ≡ replicate 65536 0) }
     {
         State {
             call: &[],
             name: &[],
             table: ArrayVec::new(),
+            left: [0; 65536],
         }
     }
 
@@ -137,9 +148,9 @@ impl<'a> State<'a> {
             Line::Call(call) => self.call = call,
             Line::Table(name) => {
                 self.name = name;
-                self.table.clear();
+                clear(&mut self.table, &mut self.left);
             }
-            Line::Bytes(count) => put_zeros(&mut self.table, *count),
+            Line::Bytes(count) => put_left(&mut self.table, &self.left, *count),
             Line::Records(records) => records.put(&mut self.table),
         }
     }
@@ -171,6 +182,26 @@ mod tests {
         let want = [
             1, 1, 0, 0, 4, 0, 40, 0, 3, 0, 0, 0, 1, 0, 0, 0, 3, 0, 1, 0, 2, 0, 0, 0, 0,
         ];
+        assert_eq!(rt; state.table.as_slice(), want.as_slice());
+        Ok(())
+    }
+
+    #[test]
+    fn bytes_are_added_as_tables_left_them(rt: HostRuntime) -> Result<(), Fail> {
+        let mut state = State::new();
+        let lines: [&[u8]; 7] = [
+            b"= longest",
+            b"1 1 2 3 4 2",
+            b"= longer",
+            b"3 0 5 0 7",
+            b"= short",
+            b"+ 4",
+            b"+ 13",
+        ];
+        for text in lines {
+            state.take(&Line::read(text));
+        }
+        let want = [3, 0, 5, 0, 0, 0, 7, 0, 1, 1, 2, 0, 3, 0, 4, 0, 0];
         assert_eq!(rt; state.table.as_slice(), want.as_slice());
         Ok(())
     }

@@ -3,7 +3,7 @@ use Prim.Native.Nat.{ℕ, ◌<◌, ◌≤◌}
 use mathlib.Core.Path.{◌≡◌, refl, sym, ap, ◌∙◌, subst}
 use mathlib.Core.Bool.{Bool, true, false, true≢false, not, cond, ◌&&◌, ◌||◌}
 use mathlib.Core.List.{List, [], ◌∷◌, ◌++◌, map, Memᴰ}
-use Rattle.std.specs.Prelude.{Option, None, Some, MatchOption}
+use Rattle.std.specs.Prelude.{Option, None, Some}
 use Rattle.table.proofs.Booleans.{some_not_none}
 use native.Mathlib.Omega.{arith}
 use lib.Dec.{eqb, leb}
@@ -22,7 +22,7 @@ use Rattle.table.specs.Checks.{checks, Accepted}
 use Rattle.table.specs.Program.{program_of}
 use Rattle.sync.specs.Words.{member}
 use Rattle.table.proofs.Booleans.{or_false, and_true_left, and_true_right}
-use Rattle.table.proofs.Below.{earliest_none, earliest_some, earliest_passed}
+use Rattle.table.proofs.Below.{earliest_passed}
 use Rattle.table.proofs.Refusals.{refusal_pass, refusal_here, refusal_none, not_applied, refusal_over_none, refusal_over_some}
 use Rattle.rules.specs.Choice.{unmerged, unguarded, ChoiceFor}
 use Rattle.rules.specs.Rules.{entries, LeastSizes}
@@ -98,13 +98,6 @@ module _ {X : Type 0} (table : X → List ℕ) (buffer : X → ℕ) (x : X) wher
   pub sizes_fit : (cs : List (Check X)) → Memᴰ (sizes_row table buffer) cs → refusal cs x ≡ None → entries (program_of (table x)) ≤ buffer x
   unfolding too_short
   sizes_fit cs m e = ltb-false _ _ (not_applied (too_short (table x) (buffer x)) (entries (program_of (table x))) (refusal_none x cs e (sizes_row table buffer) m))
-
--- the first number at which a test passes, as a search over the numbers finds it
-pub earliest_by : (test : ℕ → Bool) (n : ℕ) (o : Option ℕ)
-    → MatchOption o ((k : ℕ) → 0 ≤ k → k < n → test k ≡ false) (λ r. (0 ≤ r) × (r < n) × (test r ≡ true) × ((k : ℕ) → 0 ≤ k → k < r → test k ≡ false))
-    → o ≡ earliest test n
-earliest_by test n None h = sym (earliest_none test n (λ k l. h k (omega arith) l))
-earliest_by test n (Some r) h = sym (earliest_some test n r h.1 (λ k l. h.3 k (omega arith) l) h.2)
 
 -- ---- the checks of a call with a choice
 

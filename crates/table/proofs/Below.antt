@@ -4,7 +4,7 @@ use mathlib.Core.Path.{◌≡◌, refl, sym, ap, ◌∙◌, subst}
 use mathlib.Core.List.{List}
 use mathlib.Core.Bool.{Bool, true, false, not, cond, ◌&&◌, ◌||◌}
 use mathlib.Core.Logic.{◌⊎◌, ⊎_elim}
-use Rattle.std.specs.Prelude.{Option, None, Some, unwrap_or, is_none}
+use Rattle.std.specs.Prelude.{Option, None, Some, MatchOption, unwrap_or, is_none}
 use Rattle.std.specs.Option.{option_or}
 use Rattle.table.proofs.Booleans.{some_not_none}
 use native.Mathlib.Nat.{eq-or-lt_of_le}
@@ -52,6 +52,13 @@ module _ (f : ℕ → Bool) where
       (λ (e : r ≡ n). subst (λ (m : ℕ). option_or (earliest f m) (cond (f m) (Some m) None) ≡ Some r) e (rw (earliest_none r b, h) refl))
       (λ (l : r < n). rw (earliest_some n r l b h) refl)
       (last_or_before r n l)
+
+  -- what a search over the numbers from 0 gives is the least one
+  pub earliest_by : (n : ℕ) (o : Option ℕ)
+      → MatchOption o ((k : ℕ) → 0 ≤ k → k < n → f k ≡ false) (λ r. (0 ≤ r) × (r < n) × (f r ≡ true) × ((k : ℕ) → 0 ≤ k → k < r → f k ≡ false))
+      → o ≡ earliest f n
+  earliest_by n None h = sym (earliest_none n (λ k l. h k (omega arith) l))
+  earliest_by n (Some r) h = sym (earliest_some n r h.1 (λ k l. h.3 k (omega arith) l) h.2)
 
   pub earliest_found : (n r : ℕ) → earliest f n ≡ Some r → (r < n) × (f r ≡ true)
   unfolding earliest

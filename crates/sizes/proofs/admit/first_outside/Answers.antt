@@ -3,7 +3,7 @@ use mathlib.Core.Bool.{true, false}
 use borrow.Author.Rules.{rules}
 use Rattle.std.proofs.lemmas.Iterator.{first_from_Range}
 use Rattle.sizes.specs.Call.{outside}
-use Rattle.sizes.proofs.Calls.{earliest_by}
+use Rattle.table.proofs.Below.{earliest_by}
 use Rattle.sizes.proofs.admit.first_outside.Goals as goal
 
 pub returns : goal.returns
