@@ -21,7 +21,7 @@ fn judge(program: &Program<'_>, verdicts: usize, buffer: usize) -> Result<(), Re
             place: nodes,
         });
     }
-    let needed = 4 * (program.of.functions + nodes);
+    let needed = program.entries();
     if buffer < needed {
         return Err(Refused {
             cause: Cause::Sizes,

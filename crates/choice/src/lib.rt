@@ -26,7 +26,7 @@ fn write(program: &Program<'_>, found: &Found, verdicts: &mut [u8], sizes: &mut 
 {
     let nodes = program.of.nodes;
     verdicts[..nodes].copy_from_slice(&found.verdicts[..nodes]);
-    let entries = 4 * (program.of.functions + nodes);
+    let entries = program.entries();
     sizes[..entries].copy_from_slice(&found.sizes[..entries]);
 }
 

@@ -16,7 +16,7 @@ fn has_word(program: &Program<'_>, choice: &[u8], word: u64) -> bool
 {
     let of = program.of;
     let head = Rule::from(word).head;
-    if head < 4 * of.functions || 4 * (of.functions + of.nodes) <= head {
+    if head < 4 * of.functions || program.entries() <= head {
         return true;
     }
     rests_on_target(program, choice, head / 4 - of.functions, head % 4)

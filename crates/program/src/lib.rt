@@ -6,7 +6,7 @@ mod functions;
 mod nodes;
 mod reading;
 
-ghost use Rattle.std.specs.Prelude.{◌≡◌, ◌≤◌};
+ghost use Rattle.std.specs.Prelude.{◌≡◌, ◌≤◌, ◌+◌, ◌*◌};
 ghost use Rattle.table.specs.Answer.{Ready};
 ghost use Rattle.table.specs.Program.{program_of};
 
@@ -25,4 +25,13 @@ pub struct Program<'a> {
     ghost few_functions: { of.functions ≤ 64 },
     ghost few_nodes: { of.nodes ≤ 512 },
     ghost few_edges: { of.edges ≤ 1024 },
+}
+
+impl Program<'_> {
+    // How many sizes it has: four for each function and each node.
+    pub fn entries(&self) -> usize
+        ensures { result ≡ 4 * (self.now.of.functions + self.now.of.nodes) }
+    {
+        4 * (self.of.functions + self.of.nodes)
+    }
 }

@@ -44,7 +44,7 @@ fn judge(program: &Program<'_>, choice: &[u8], buffer: usize) -> Result<(), Refu
             place,
         });
     }
-    let needed = 4 * (program.of.functions + nodes);
+    let needed = program.entries();
     if buffer < needed {
         return Err(Refused {
             cause: Cause::Sizes,

@@ -28,8 +28,7 @@ pub fn write(program: &Program<'_>, found: &Solution, out: &mut [u32])
     requires { entries (program_of program.now.table.now) ≤ length out.old }
     ensures { Written (entries (program_of program.now.table.now)) (at (map value_of found.now.sizes)) out.old out.new }
 {
-    let count = 4 * (program.of.functions + program.of.nodes);
-    write_sizes(&found.sizes()[..count], out);
+    write_sizes(&found.sizes()[..program.entries()], out);
 }
 
 // The least sizes of a choice, from zeros, with the sums of nodes that safety asks for, and how many turns it took; of that number

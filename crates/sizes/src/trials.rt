@@ -43,8 +43,7 @@ pub fn find_from(prepared: &Prepared<'_>, choice: &[u8], numbers: &[u32]) -> Sol
     ensures { FoundFor prepared.now.known (choice_of choice.now) result }
 {
     let known = &prepared.known;
-    let entries = 4 * (known.program.of.functions + known.program.of.nodes);
-    let mut found = Solution::starting(&numbers[..entries]);
+    let mut found = Solution::starting(&numbers[..known.program.entries()]);
     let words = Some(prepared.words);
     with_rules(known, choice, words, &mut found, Solution::solve);
     found

@@ -1,4 +1,3 @@
-use Prim.Native.Nat.{◌+◌, ◌*◌}
 use mathlib.Core.Path.{◌∙◌}
 use native.Mathlib.Omega.{arith}
 use Rattle.sizes.specs.Known.{call}
@@ -23,11 +22,11 @@ returns-then-buffer-needed c =
     let a = c.args in
     let p = a.program.now in
     let e = p.nodes_are in
-    buffer_refused (call p.table.now a.choice.now a.buffer) p.ready.accepted_is (c.if-choice-nodes.false ∙ e) (rw e at c.first_outside.ensures) c.in_default.is (4 * (p.of.functions + p.of.nodes)) (omega (arith, p.functions_are)) c.if-buffer-needed.true
+    buffer_refused (call p.table.now a.choice.now a.buffer) p.ready.accepted_is (c.if-choice-nodes.false ∙ e) (rw e at c.first_outside.ensures) c.in_default.is c.entries-needed.result (omega (arith, c.entries-needed.ensures, p.functions_are)) c.if-buffer-needed.true
 
 pub returns : goal.returns
 returns c =
     let a = c.args in
     let p = a.program.now in
     let e = p.nodes_are in
-    nothing_refused (call p.table.now a.choice.now a.buffer) p.ready.accepted_is (c.if-choice-nodes.false ∙ e) (rw e at c.first_outside.ensures) c.in_default.is (4 * (p.of.functions + p.of.nodes)) (omega (arith, p.functions_are)) c.if-buffer-needed.false
+    nothing_refused (call p.table.now a.choice.now a.buffer) p.ready.accepted_is (c.if-choice-nodes.false ∙ e) (rw e at c.first_outside.ensures) c.in_default.is c.entries-needed.result (omega (arith, c.entries-needed.ensures, p.functions_are)) c.if-buffer-needed.false
