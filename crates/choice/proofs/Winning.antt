@@ -206,7 +206,7 @@ module _ (g : Program) (w : WellFormed g) (count : ℕ) (order : ℕ → ℕ) (o
   walks_return = return_unbeaten g w count order o final final_for two.safe beaten_by_none
 
 -- so what a search comes to is the choice to return, with its sizes
-pub searched_best : {p : Prepared} {found : Found} → PreparedFor p → Searched p found → BestOf p.known found
+pub searched_best : {p : Prepared} {found : Found} → PreparedFor p → Searched p found → BestOf (known_program p.known) found
 searched_best {p} {found} q x =
     let m = x.merged in
     let w = well_formed p.known.program.table.now p.known.program.ready.accepted_is in

@@ -5,8 +5,8 @@ ghost use Rattle.sizes.specs.Known.{KnownFor};
 ghost use Rattle.choice.specs.Call.{best_call, best_result};
 
 use program::Program;
+use sizes::Known;
 use sizes::admit::look;
-use sync::Known;
 use table::refusal::{Cause, Refused};
 
 // Judges the lengths of both buffers.

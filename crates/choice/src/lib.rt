@@ -2,7 +2,6 @@
 #![tactic(auto)]
 
 mod admit;
-mod find;
 
 ghost use Rattle.std.specs.Prelude.{◌≡◌, ◌≤◌, length};
 ghost use Rattle.table.specs.Program.{program_of};
@@ -12,10 +11,10 @@ ghost use Rattle.sizes.specs.Call.{result_of};
 ghost use Rattle.choice.specs.Call.{best_call, best_result, LeavesBoth};
 
 use admit::admit;
-use find::find;
 use program::Program;
 use search::Found;
 pub use search::Work;
+use sizes::trials::with_prepared;
 use table::refusal::Refused;
 
 // Writes the verdicts and the sizes of a table, at the buffers' edges.
@@ -45,7 +44,7 @@ pub fn counted(t: &[u8], verdicts: &mut [u8], sizes: &mut [u32]) -> Result<Work,
     ensures leaves { LeavesBoth t.now verdicts.old verdicts.new sizes.old sizes.new result }
 {
     let known = admit(t, verdicts.len(), sizes.len())?;
-    let found = find(&known);
+    let found = with_prepared(&known, search::find);
     write(&known.program, &found, verdicts, sizes);
     Ok(found.work)
 }

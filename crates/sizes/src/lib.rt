@@ -12,6 +12,8 @@ ghost use Rattle.sizes.specs.Known.{call};
 
 use admit::admit;
 use find::{find, write};
+// what is known of a table, for the crates above
+pub use sync::Known;
 use table::refusal::Refused;
 
 // Writes the sizes of a choice: for each function and then each node Total, Post, Pre, Through, unbounded as 65,536.

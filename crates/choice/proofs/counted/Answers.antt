@@ -1,5 +1,9 @@
+use Rattle.table.specs.Program.{program_of}
+use Rattle.search.specs.Walk.{Searched}
+use Rattle.choice.specs.Best.{BestOf}
 use Rattle.choice.proofs.Calls.{done_fits}
 use Rattle.choice.proofs.Leaving.{best_leaves}
+use Rattle.choice.proofs.Winning.{searched_best}
 use Rattle.choice.proofs.counted.Goals as goal
 
 pub write-requires : goal.write-requires
@@ -8,4 +12,9 @@ write-requires c =
     rw c.in_ok-known.ensures.known.table_is (fits.verdicts, fits.sizes)
 
 pub returns-clause-leaves : goal.returns-clause-leaves
-returns-clause-leaves c = best_leaves c.in_ok-known.ensures.known c.find-found.ensures c.write.ensures.verdicts c.write.ensures.sizes
+returns-clause-leaves c =
+    let m = c.with_prepared-found.ensures in
+    let searched : Searched m.prepared c.with_prepared-found.result = rw m.made.2 at m.made.1 in
+    let same = c.in_ok-known.ensures.known.table_is in
+    let best : BestOf (program_of c.args.t.now) c.with_prepared-found.result = rw (m.known_is, same) at (searched_best m.prepared_for searched) in
+    best_leaves best (rw same at c.write.ensures.verdicts) (rw same at c.write.ensures.sizes)
