@@ -4,8 +4,7 @@
 ghost use Rattle.std.specs.Prelude.{◌≡◌, ◌++◌, length, take, drop};
 ghost use Rattle.table.specs.Answer.{outcome, number_of};
 ghost use Rattle.sync.specs.Words.{Eight};
-ghost use Rattle.sizes.specs.Call.{call_result, LeavesFor};
-ghost use Rattle.sizes.specs.Known.{call};
+ghost use Rattle.sizes.specs.Call.{call, call_result, LeavesFor};
 ghost use Rattle.choice.specs.Call.{best_call, best_result, LeavesBothFor};
 ghost use Rattle.nagbiro.specs.Codes.{table_result, code_of, Told};
 ghost use Rattle.nagbiro.specs.Left.{Counted, LeavesWords, Judges};

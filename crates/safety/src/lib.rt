@@ -4,8 +4,7 @@
 mod tests;
 
 ghost use Rattle.std.specs.Prelude.{length};
-ghost use Rattle.sizes.specs.Call.{choice_of, Leaves};
-ghost use Rattle.sizes.specs.Known.{call};
+ghost use Rattle.sizes.specs.Call.{call, choice_of, Leaves};
 ghost use Rattle.sizes.specs.Trials.{PreparedFor, StartsFor};
 ghost use Rattle.safety.specs.Call.{Answers};
 ghost use Rattle.safety.specs.Trial.{Tried};

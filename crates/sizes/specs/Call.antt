@@ -19,6 +19,10 @@ pub record Call : Type 0 where
   -- how many numbers the sizes buffer has
   pub buffer : ℕ
 
+-- a call with this table, this choice and a sizes buffer of so many numbers
+abbrev pub call : List ℕ → List ℕ → ℕ → Call
+call t choice buffer = record { table = t; choice = choice; buffer = buffer }
+
 -- the choice that bytes give
 abbrev pub choice_of : List ℕ → ℕ → ℕ
 choice_of bytes n = get_or bytes n 0

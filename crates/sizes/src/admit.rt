@@ -1,8 +1,8 @@
 // What a call that is handed a choice and a sizes buffer is refused for.
 ghost use Rattle.std.specs.Prelude.{◌≡◌, ◌<◌, IfOk};
 ghost use Rattle.table.specs.Below.{earliest};
-ghost use Rattle.sizes.specs.Call.{outside, call_result, result_of, table_result};
-ghost use Rattle.sizes.specs.Known.{call, KnownFor};
+ghost use Rattle.sizes.specs.Call.{call, outside, call_result, result_of, table_result};
+ghost use Rattle.sizes.specs.Known.{KnownFor};
 
 use program::Program;
 use rules::targets::chosen;

@@ -7,8 +7,7 @@ pub mod find;
 pub mod trials;
 
 ghost use Rattle.std.specs.Prelude.{◌≡◌, length};
-ghost use Rattle.sizes.specs.Call.{call_result, result_of, Leaves};
-ghost use Rattle.sizes.specs.Known.{call};
+ghost use Rattle.sizes.specs.Call.{call, call_result, result_of, Leaves};
 
 use admit::admit;
 use find::{find, write};

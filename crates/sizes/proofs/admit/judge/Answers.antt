@@ -1,6 +1,6 @@
 use mathlib.Core.Path.{◌∙◌}
 use native.Mathlib.Omega.{arith}
-use Rattle.sizes.specs.Known.{call}
+use Rattle.sizes.specs.Call.{call}
 use Rattle.sizes.proofs.Calls.{length_refused, byte_refused, buffer_refused, nothing_refused}
 use Rattle.sizes.proofs.admit.judge.Goals as goal
 
