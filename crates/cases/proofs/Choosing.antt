@@ -53,7 +53,8 @@ choice_found r c t = record {
 abbrev is_item : (ℕ → ℕ) → ℕ → ℕ → Bool
 is_item order n i = eqb (order i) n
 
--- the choice that gives spawn `order j` the verdict k, those before it theirs up to k, and the others theirs up to k - 1
+-- What stands in the way of a verdict k for spawn `order j`: the choice that gives it k, the spawns before it theirs up to k, and the others theirs
+-- up to k - 1, since a choice that wins there may have less behind it.
 unfoldable pub obstacle : (order : ℕ → ℕ) (k j : ℕ) (c : ℕ → ℕ) → ℕ → ℕ
 unfolding any
 obstacle order k j c n = cond (is_item order n j) k (min (c n) (cond (any (is_item order n) j) k (k - 1)))
@@ -103,7 +104,8 @@ module _ (g : Program) (w : WellFormed g) (count : ℕ) (order : ℕ → ℕ) (o
       move n l (yes b) (no s) = absurd (omega (arith, f.others n l s))
       move n l (no b) s = inl (omega (arith, e n l))
 
-  -- a safe choice is returned if one more for any spawn that it does not leave unguarded is unsafe
+  -- A safe choice is returned if it is safe too with no spawn left unguarded, and what stands in the way of one verdict more is unsafe, for each
+  -- spawn that it does not leave unguarded.
   pub returned_by : Safe g c → Safe g (λ n. min (c n) guarded) → ((j : ℕ) → j < count → c (order j) < unguarded → Unsafe g (obstacle order (suc (c (order j))) j c)) → Returned g c
   returned_by safe merged-safe u =
       walks_return g w count order o (λ n. min (c n) unmerged) (λ n. min (c n) guarded) c begins

@@ -39,8 +39,8 @@ abbrev pub unsafe_by : Rows → (ℕ → ℕ) → List Move → Bool
 unsafe_by r c plan = solved r c plan && not (safe_test r (values r c plan))
 
 -- What a claim is shown by, as far as it needs it: a choice; a plan for its sizes; and, where the choice is to be the best, the depths of the
--- functions, the spawns in preference order, and plans for the choice with no spawn left unguarded and for one verdict more at each spawn of
--- the order.
+-- functions, the spawns in preference order, and plans for the choice with no spawn left unguarded and for what stands in the way of one verdict
+-- more at each spawn of the order.
 pub record Evidence : Type 0 where
   pub choice : List ℕ
   pub plan : List Move
@@ -49,7 +49,7 @@ pub record Evidence : Type 0 where
   pub merging : List Move
   pub more : List (List Move)
 
--- item j of the order is left unguarded, or one verdict more for it is unsafe
+-- item j of the order is left unguarded, or what stands in the way of one verdict more for it is unsafe
 abbrev blocked : Rows → List ℕ → Evidence → ℕ → Bool
 blocked r c x j =
     cond (ltb (at c (at x.order j)) unguarded)
