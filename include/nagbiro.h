@@ -1,6 +1,6 @@
 /*
  * Nagbiro: which spawns of a task table may share a stack, and how large every stack is.
- * The format of a table, the choices, the sizes and the refusals are those of document 01.
+ * What a table holds, what sizes and verdicts are and what each refusal means is in docs/TABLES.md.
  *
  * A buffer is a pointer and, right after it, its length in elements: bytes, 32-bit or 64-bit
  * numbers, as the pointer's type says. Of the caller is asked that
