@@ -13,7 +13,9 @@
  *
  * Every function returns 0, or the number of a refusal, and then what it gives of the place is
  * the place of that refusal. A refusal writes nothing but the place. No function allocates
- * memory, keeps a pointer or has state of its own, so calls may run at the same time.
+ * memory, keeps a pointer or has state of its own, so calls may run at the same time. They work on
+ * the stack: a thread that has as many bytes of it as a function needs can call that function,
+ * whatever the table, if nothing else takes much of it.
  */
 #ifndef NAGBIRO_H
 #define NAGBIRO_H
@@ -50,7 +52,9 @@ extern "C" {
  * Reads: table.
  * Returns 0 for an accepted table, and writes its numbers of functions, nodes and edges to a, b
  * and c. Else returns the refusal, 1 to 8, and writes its place to a; b and c are kept.
+ * Needs: NAGBIRO_CHECK_STACK bytes of stack.
  */
+#define NAGBIRO_CHECK_STACK (16 * 1024)
 uint32_t nagbiro_check(const uint8_t *table, size_t table_length, size_t *a, size_t *b, size_t *c);
 
 /*
@@ -59,7 +63,9 @@ uint32_t nagbiro_check(const uint8_t *table, size_t table_length, size_t *a, siz
  * Returns 0, and writes the set's eight words to words: as many as there is room for, and never
  * more than eight. Words past them and place are kept. Else returns the refusal, 1 to 8, and
  * writes its place to place; words is kept.
+ * Needs: NAGBIRO_SYNCHRONISING_STACK bytes of stack.
  */
+#define NAGBIRO_SYNCHRONISING_STACK (48 * 1024)
 uint32_t nagbiro_synchronising(const uint8_t *table, size_t table_length,
                                uint64_t *words, size_t words_length, size_t *place);
 
@@ -70,7 +76,9 @@ uint32_t nagbiro_synchronising(const uint8_t *table, size_t table_length,
  * Returns 0, writes 1 to safe for a safe choice and 0 for an unsafe one, and in both cases the
  * sizes to sizes. Numbers past the 4 * (functions + nodes) that are needed, and place, are kept.
  * Else returns the refusal, 1 to 9 or 11, and writes its place to place; sizes and safe are kept.
+ * Needs: NAGBIRO_ONE_CHOICE_STACK bytes of stack.
  */
+#define NAGBIRO_ONE_CHOICE_STACK (176 * 1024)
 uint32_t nagbiro_one_choice(const uint8_t *table, size_t table_length,
                             const uint8_t *choice, size_t choice_length,
                             uint32_t *sizes, size_t sizes_length, uint32_t *safe, size_t *place);
@@ -82,7 +90,9 @@ uint32_t nagbiro_one_choice(const uint8_t *table, size_t table_length,
  * as above. What stands in either past them, and place, is kept.
  * Else returns the refusal, 1 to 8, 10 or 11, and writes its place to place; verdicts and sizes
  * are kept. The place of 10 and 11 is the length that is needed.
+ * Needs: NAGBIRO_BEST_CHOICE_STACK bytes of stack.
  */
+#define NAGBIRO_BEST_CHOICE_STACK (400 * 1024)
 uint32_t nagbiro_best_choice(const uint8_t *table, size_t table_length,
                              uint8_t *verdicts, size_t verdicts_length,
                              uint32_t *sizes, size_t sizes_length, size_t *place);
