@@ -10,6 +10,7 @@ use cases::{show_best, show_safety, show_sizes, show_sync};
 use counts::{show_passes, show_trials};
 use names::Call;
 use report::{OLD_SIZE, OLD_VERDICT};
+pub use script::Failed;
 use script::{Line, Run, State, read_full};
 use std::io;
 use std::io::{Read, Write};
@@ -66,8 +67,8 @@ fn run_script<W: Write>(out: &mut W, text: &[u8]) -> io::Result<()> {
 }
 
 // Makes the calls of the script on standard input, of which it reads 65,536 bytes.
-pub fn run_input(rt: &(impl Input + Print)) -> io::Result<()> {
+pub fn run_input(rt: &(impl Input + Print)) -> Result<(), Failed> {
     let mut buffer = [0u8; 65536];
-    let text = read_full(&mut rt.reader(), &mut buffer)?;
-    run_script(&mut io::writer(rt), text)
+    let text = read_full(&mut rt.reader(), &mut buffer).map_err(Failed::Reading)?;
+    run_script(&mut io::writer(rt), text).map_err(Failed::Writing)
 }

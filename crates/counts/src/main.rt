@@ -2,8 +2,8 @@
 // script.
 #![tactic(auto)]
 
-use std::io;
+use calls::Failed;
 
-fn main(rt: HostRuntime) -> io::Result<()> {
+fn main(rt: HostRuntime) -> Result<(), Failed> {
     calls::run_input(&rt)
 }

@@ -1,9 +1,17 @@
-// Input of a bounded length, in memory that the caller lends.
+// Input of a bounded length, in memory that the caller lends, and how a program ends where that fails.
 ghost use Rattle.std.specs.Prelude.{◌<◌, ◌≤◌, length, IfOk};
 ghost use Rattle.std.specs.Io.KnownBytes.{Consumes, IsAtEnd};
 
 use std::io;
 use std::io::Read;
+
+// What ended a program: its input could not be read, or its output not be written. What was read by then is not the input, so nothing is said of
+// it.
+#[derive(Debug, Drop)]
+pub enum Failed {
+    Reading(io::Error),
+    Writing(io::Error),
+}
 
 // Reads until the buffer is full or the input ends, and gives the bytes that were read. An input may come in pieces, so the loop goes on by
 // what a read gave, and a `for` says it no plainer.

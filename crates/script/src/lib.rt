@@ -27,7 +27,7 @@ ghost use Rattle.script.specs.Line.{ReadsAs};
 ghost use Rattle.script.specs.State.{Takes};
 
 use arrayvec::ArrayVec;
-pub use input::read_full;
+pub use input::{Failed, read_full};
 use numbers::Numbers;
 use records::Records;
 

@@ -1,8 +1,8 @@
 // Runs tables and choices whose outcomes were worked out from document 01: `calls` makes the calls of the script.
 #![tactic(auto)]
 
-use std::io;
+use calls::Failed;
 
-fn main(rt: HostRuntime) -> io::Result<()> {
+fn main(rt: HostRuntime) -> Result<(), Failed> {
     calls::run_input(&rt)
 }

@@ -26,10 +26,11 @@ const TABLE: [u8; 72] = [
 /// So many of its bytes come before the edges. They are accepted too, and their spawn comes out unguarded.
 const BEFORE_EDGES: usize = 48;
 
-/// What fails, and how it is named.
+/// What fails, and how the error names it: whether it is reading or writing, and why it fails.
 struct Failure {
     what: &'static str,
     how: How,
+    side: &'static str,
     name: &'static str,
 }
 
@@ -40,19 +41,27 @@ enum How {
     Late(usize),
 }
 
+const READING: &str = "Reading";
+const WRITING: &str = "Writing";
+
 const NO_FILE: &str = "Bad file descriptor";
 const NOT_YET: &str = "Resource temporarily unavailable";
 
 const FAILURES: [Failure; 9] = [
-    Failure { what: "a directory as input", how: How::Redirected("<."), name: "Is a directory" },
-    Failure { what: "a closed input", how: How::Redirected("<&-"), name: NO_FILE },
-    Failure { what: "a write-only input", how: How::Redirected("0>/dev/null"), name: NO_FILE },
-    Failure { what: "an input that is late from the start", how: How::Late(0), name: NOT_YET },
-    Failure { what: "an input that is late within a record", how: How::Late(13), name: NOT_YET },
-    Failure { what: "an input whose edges are late", how: How::Late(BEFORE_EDGES), name: NOT_YET },
-    Failure { what: "a closed output", how: How::Redirected(">&-"), name: NO_FILE },
-    Failure { what: "a read-only output", how: How::Redirected("1</dev/null"), name: NO_FILE },
-    Failure { what: "a full output", how: How::Redirected(">/dev/full"), name: "No space left on device" },
+    Failure { what: "a directory as input", how: How::Redirected("<."), side: READING, name: "Is a directory" },
+    Failure { what: "a closed input", how: How::Redirected("<&-"), side: READING, name: NO_FILE },
+    Failure { what: "a write-only input", how: How::Redirected("0>/dev/null"), side: READING, name: NO_FILE },
+    Failure { what: "an input that is late from the start", how: How::Late(0), side: READING, name: NOT_YET },
+    Failure { what: "an input that is late within a record", how: How::Late(13), side: READING, name: NOT_YET },
+    Failure { what: "an input whose edges are late", how: How::Late(BEFORE_EDGES), side: READING, name: NOT_YET },
+    Failure { what: "a closed output", how: How::Redirected(">&-"), side: WRITING, name: NO_FILE },
+    Failure { what: "a read-only output", how: How::Redirected("1</dev/null"), side: WRITING, name: NO_FILE },
+    Failure {
+        what: "a full output",
+        how: How::Redirected(">/dev/full"),
+        side: WRITING,
+        name: "No space left on device",
+    },
 ];
 
 /// A program with its arguments.
@@ -65,13 +74,13 @@ fn run(program: Words, redirection: &str, input: Input) -> Result<Output, String
 }
 
 /// An error where the end of a program that had this failure is not as it has to be.
-fn ends_by(output: &Output, name: &str) -> Result<(), String> {
+fn ends_by(output: &Output, side: &str, name: &str) -> Result<(), String> {
     let (printed, text) = (String::from_utf8_lossy(&output.stdout), String::from_utf8_lossy(&output.stderr));
     if !printed.is_empty() {
         return Err(format!("it prints {printed:?}"));
     }
-    if !text.ends_with('\n') || text.lines().count() != 1 || !text.contains(name) {
-        return Err(format!("no line of {name:?} on standard error: {text:?}"));
+    if !text.ends_with('\n') || text.lines().count() != 1 || !text.contains(side) || !text.contains(name) {
+        return Err(format!("no line of {side:?} and {name:?} on standard error: {text:?}"));
     }
     if output.status.code() != Some(1) {
         return Err(format!("it ends with {}", output.status));
@@ -84,7 +93,9 @@ fn held(program: Words, failure: &Failure) -> Result<(), String> {
         How::Redirected(redirection) => run(program, redirection, Input::Whole(&TABLE)),
         How::Late(early) => run(program, "", Input::Late(&TABLE[..early], &TABLE[early..])),
     };
-    output.and_then(|output| ends_by(&output, failure.name)).map_err(|text| format!("{}: {text}", failure.what))
+    output
+        .and_then(|output| ends_by(&output, failure.side, failure.name))
+        .map_err(|text| format!("{}: {text}", failure.what))
 }
 
 /// Inputs that are no failure, and whether a text is their answer. Parts of the table have answers of their own, so a
@@ -138,7 +149,7 @@ mod tests {
     const WRONG: [&str; 3] = [
         "count=$(cat 2>/dev/null | wc -c); echo \"$count bytes\" 2>/dev/null; exit 0",
         "cat >/dev/null 2>&1; exit 1",
-        "echo 'Is a directory, Bad file descriptor, Resource temporarily unavailable, No space left on device' >&2",
+        "echo 'Reading, Writing: Is a directory, Bad file descriptor, Resource temporarily unavailable, No space left on device' >&2",
     ];
 
     #[test]
@@ -162,14 +173,16 @@ mod tests {
     /// A program that does all right but for its status, or prints a line too many.
     #[test]
     fn each_part_of_an_end_counts() {
-        let end = |script: &str| ends_by(&run(&["sh", "-c", script], "", Input::Whole(&[])).expect("sh"), NO_FILE);
-        assert_eq!(end("echo 'Bad file descriptor' >&2; exit 1"), Ok(()));
+        let end =
+            |script: &str| ends_by(&run(&["sh", "-c", script], "", Input::Whole(&[])).expect("sh"), READING, NO_FILE);
+        assert_eq!(end("echo 'Reading: Bad file descriptor' >&2; exit 1"), Ok(()));
         for script in [
-            "echo 'Bad file descriptor' >&2; exit 2",
-            "echo 'Bad file descriptor' >&2; kill -s KILL $$",
-            "echo 'Bad file descriptor' >&2; echo 'and more' >&2; exit 1",
-            "echo 'Is a directory' >&2; exit 1",
-            "echo; echo 'Bad file descriptor' >&2; exit 1",
+            "echo 'Reading: Bad file descriptor' >&2; exit 2",
+            "echo 'Reading: Bad file descriptor' >&2; kill -s KILL $$",
+            "echo 'Reading: Bad file descriptor' >&2; echo 'and more' >&2; exit 1",
+            "echo 'Reading: Is a directory' >&2; exit 1",
+            "echo 'Writing: Bad file descriptor' >&2; exit 1",
+            "echo; echo 'Reading: Bad file descriptor' >&2; exit 1",
         ] {
             assert!(end(script).is_err(), "{script}");
         }
