@@ -114,13 +114,15 @@ fn refusal_3(records: &[Record]) -> Option<usize> {
 /// 4: "one more of its kind than allowed", place "that record".
 /// "At most 64 functions, 512 nodes, 1,024 edges."
 fn refusal_4(records: &[Record]) -> Option<usize> {
+    let mut seen = [0; 4];
     for (place, r) in records.iter().enumerate() {
         let allowed = match r.kind {
             FUNCTION => 64,
             NODE => 512,
             _ => 1024,
         };
-        if of_kind(&records[..=place], r.kind).len() == allowed + 1 {
+        seen[r.kind as usize] += 1;
+        if seen[r.kind as usize] == allowed + 1 {
             return Some(place);
         }
     }
