@@ -1,6 +1,7 @@
 //! One input: a table, a choice and lent buffers, made from a seed and a number.
 
-use second::random::{self, Random, Shape};
+use crate::refused::{calls, count, field, records, refused, set_field, Records};
+use second::random::{self, record, Frames, Random, Shape, FULL};
 use second::sizes::numbers_needed;
 use second::table::{check, Program, Sort};
 
@@ -28,40 +29,115 @@ pub enum Kind {
     Straight,
     /// Recursion and loops with frames of 1. The second implementation takes many rounds.
     Crawling,
+    /// A chain of functions, so that depths go to ten and more, mostly with recursion and loops.
+    Deep,
+    /// Up to 40 spawns in few functions, with recursion and loops.
+    Many,
     /// 64 functions, 512 nodes and 1,024 edges, with recursion and loops and few spawns.
     Full,
     /// The same with neither recursion nor loops, with frames of 1 and many spawns.
     FullStraight,
+    /// Functions, nodes and edges, some of them as many as allowed, or one more.
+    Limits,
+    /// A small table whose functions, nodes and edges stand behind others, so that they are the last ones allowed.
+    Last,
     /// A small table with bytes changed, cut, or records moved.
     Damaged,
     /// The same of a full one.
     FullDamaged,
+    /// A small table that two checks apply to, mostly neighbouring ones.
+    Refused,
 }
 
-pub const KINDS: [Kind; 7] =
-    [Kind::Small, Kind::Straight, Kind::Crawling, Kind::Full, Kind::FullStraight, Kind::Damaged, Kind::FullDamaged];
+/// The kinds, with how many of 10,000 inputs are of each. The large and the slow ones are few.
+pub const KINDS: [(Kind, usize); 12] = [
+    (Kind::Small, 3_899),
+    (Kind::Straight, 1_400),
+    (Kind::Crawling, 2),
+    (Kind::Deep, 400),
+    (Kind::Many, 400),
+    (Kind::Full, 8),
+    (Kind::FullStraight, 2),
+    (Kind::Limits, 50),
+    (Kind::Last, 150),
+    (Kind::Damaged, 2_439),
+    (Kind::FullDamaged, 50),
+    (Kind::Refused, 1_200),
+];
 
 fn kind(random: &mut Random) -> Kind {
-    match random.below(10_000) {
-        0..=2 => Kind::Crawling,
-        3..=12 => Kind::Full,
-        13..=14 => Kind::FullStraight,
-        15..=64 => Kind::FullDamaged,
-        65..=4_999 => Kind::Small,
-        5_000..=6_499 => Kind::Straight,
-        _ => Kind::Damaged,
+    let mut at = random.below(10_000);
+    for (kind, share) in KINDS {
+        if at < share {
+            return kind;
+        }
+        at -= share;
+    }
+    unreachable!("the shares add up")
+}
+
+/// Which of functions, nodes and edges are as many as allowed. Half of the time one of them is one more.
+fn limits(random: &mut Random) -> [usize; 3] {
+    let mut fill = FULL.map(|most| if random.once_in(3) { most } else { 0 });
+    if random.once_in(2) {
+        let kind = random.below(3);
+        fill[kind] = FULL[kind] + 1;
+    }
+    fill
+}
+
+/// The shapes with large frames, so that the second implementation is quick with them.
+fn large_shape(random: &mut Random, kind: Kind, large: Shape) -> Shape {
+    match kind {
+        Kind::Deep => Shape {
+            functions: 10 + random.below(8),
+            inner: 2 + random.below(4),
+            spawns: 6 + random.below(25),
+            recursion: !random.once_in(3),
+            chain: true,
+            ..large
+        },
+        // A chain has as many functions as asked for.
+        Kind::Many => Shape {
+            functions: 2 + random.below(5),
+            inner: 12 + random.below(16),
+            spawns: 20 + random.below(21),
+            chain: !random.once_in(4),
+            ..large
+        },
+        Kind::Limits => Shape {
+            inner: 1 + random.below(5),
+            spawns: random.below(3),
+            chain: random.once_in(4),
+            fill: limits(random),
+            loops: true,
+            ..large
+        },
+        // Without recursion, and with smaller frames, sizes are seldom unbounded, and each edge tells.
+        Kind::Last => Shape {
+            functions: 4,
+            inner: 6,
+            spawns: 2 + random.below(5),
+            recursion: random.once_in(3),
+            frames: if random.once_in(2) { Frames::Usual } else { Frames::Large },
+            ..large
+        },
+        _ => large,
     }
 }
 
 fn shape(random: &mut Random, kind: Kind) -> Shape {
     let some = Shape { functions: 1 + random.below(6), inner: 1 + random.below(6), ..Shape::USUAL };
-    let straight = Shape { small: true, loops: false, recursion: false, ..some };
+    let straight = Shape { frames: Frames::Small, loops: false, recursion: false, ..some };
+    let large = Shape { frames: Frames::Large, loops: random.once_in(2), ..some };
     match kind {
         Kind::Small | Kind::Damaged => Shape { spawns: 1 + random.below(7), ..some },
+        Kind::Refused => Shape { functions: 8, ..some },
         Kind::Straight => Shape { spawns: 1 + random.below(12), ..straight },
-        Kind::Crawling => Shape { functions: 3, inner: 3, spawns: 2, small: true, ..some },
-        Kind::Full | Kind::FullDamaged => Shape { inner: 5, spawns: random.below(6), full: true, ..some },
-        Kind::FullStraight => Shape { inner: 5, spawns: random.below(100), full: true, ..straight },
+        Kind::Crawling => Shape { functions: 3, inner: 3, spawns: 2, frames: Frames::Small, ..some },
+        Kind::Full | Kind::FullDamaged => Shape { inner: 5, spawns: random.below(6), fill: FULL, ..some },
+        Kind::FullStraight => Shape { inner: 5, spawns: random.below(100), fill: FULL, ..straight },
+        Kind::Deep | Kind::Many | Kind::Limits | Kind::Last => large_shape(random, kind, large),
     }
 }
 
@@ -131,17 +207,64 @@ fn raise_frames(table: &mut [u8]) {
     }
 }
 
+/// Functions with a node each, and more nodes, to stand before those of a table.
+fn first_ones(random: &mut Random, functions: usize, nodes: usize) -> (Records, Records) {
+    let mut first_nodes: Records = (0..functions).map(|f| record(2, 0, f, 0, 0)).collect();
+    first_nodes.extend((functions..nodes).map(|_| record(2, 0, random.below(functions + 1), 0, 0)));
+    let entry = random.once_in(2) as u8;
+    ((0..functions).map(|f| record(1, entry, f, f, f)).collect(), first_nodes)
+}
+
+/// Puts functions, nodes and edges before those of the table: nodes as many as there may be, or mostly so.
+fn push_up(random: &mut Random, table: &[u8]) -> Vec<u8> {
+    let mut old = records(table);
+    let functions = if random.once_in(2) { 64 - count(&old, 1) } else { random.below(3) };
+    let nodes = if random.once_in(8) { functions + random.below(200) } else { 512 - count(&old, 2) };
+    for record in &mut old {
+        let by = if record[0] == 2 { functions } else { nodes };
+        let (a, b) = (field(record, 2), field(record, 4));
+        set_field(record, 2, a + by);
+        if record[0] != 2 || calls(record) {
+            set_field(record, 4, b + by);
+        }
+    }
+    let of_kind = |kind: u8| old.iter().filter(move |r| r[0] == kind).copied();
+    let (mut new, first_nodes) = first_ones(random, functions, nodes);
+    new.extend(of_kind(1));
+    new.extend(first_nodes);
+    new.extend(of_kind(2));
+    if let Some(edge) = of_kind(3).next().filter(|_| random.once_in(2)) {
+        new.extend(vec![edge; 1024 - count(&old, 3)]);
+    }
+    new.extend(of_kind(3));
+    new.concat()
+}
+
 fn table(random: &mut Random, kind: Kind) -> Vec<u8> {
     let shape = shape(random, kind);
     let mut table = random::table(random, shape);
     if random.once_in(3) {
         stir_edges(random, &mut table);
     }
-    if matches!(kind, Kind::Damaged | Kind::FullDamaged) {
-        for _ in 0..1 + random.below(3) {
-            damage(random, &mut table);
+    match kind {
+        Kind::Damaged | Kind::FullDamaged => {
+            for _ in 0..1 + random.below(3) {
+                damage(random, &mut table);
+            }
+            raise_frames(&mut table);
         }
-        raise_frames(&mut table);
+        Kind::Last => {
+            // Most often the last node is a call or a spawn.
+            for _ in 0..8 {
+                if !records(&table).iter().rfind(|r| r[0] == 2).is_some_and(calls) {
+                    table = random::table(random, shape);
+                }
+            }
+            table = push_up(random, &table);
+        }
+        Kind::Limits if random.once_in(8) => table.extend(vec![0; 1 + random.below(8)]),
+        Kind::Refused => table = refused(random, &table),
+        _ => {}
     }
     table
 }
@@ -161,9 +284,12 @@ fn choice(random: &mut Random, program: Option<&Program>) -> Vec<u8> {
     if random.once_in(16) {
         choice.truncate(random.below(choice.len() + 1));
     }
-    if random.once_in(16) && !choice.is_empty() {
-        let n = random.below(choice.len());
-        choice[n] = random.below(6) as u8;
+    // Often more than one wrong byte, of which the first is the place.
+    if random.once_in(8) && !choice.is_empty() {
+        for _ in 0..1 + random.below(4) {
+            let n = random.below(choice.len());
+            choice[n] = if random.once_in(4) { random.next() as u8 } else { random.below(6) as u8 };
+        }
     }
     choice
 }
@@ -202,5 +328,53 @@ pub fn input(seed: u64, number: u64) -> Input {
         sizes: (0..sizes).map(|_| random.next() as u32).collect(),
         numbers: [0; 4].map(|_| random.next() as usize),
         safe: random.next() as u32,
+    }
+}
+
+#[cfg(test)]
+mod tests {
+    use super::*;
+
+    #[test]
+    fn the_shares_add_up() {
+        assert_eq!(KINDS.iter().map(|(_, share)| share).sum::<usize>(), 10_000);
+        assert!(KINDS.iter().enumerate().all(|(i, &(kind, share))| kind as usize == i && share > 0));
+    }
+
+    /// Only the kinds that ask for it give refused tables.
+    #[test]
+    fn tables_are_accepted() {
+        let mut random = Random::new(9);
+        for (kind, _) in KINDS {
+            let tables: Vec<Vec<u8>> = (0..200).map(|_| table(&mut random, kind)).collect();
+            let refused = tables.iter().filter(|table| check(table).is_err()).count();
+            match kind {
+                Kind::Damaged | Kind::FullDamaged | Kind::Limits => assert!(refused > 50 && refused < 195, "{refused}"),
+                Kind::Refused => assert!(refused > 150, "{refused}"),
+                _ => assert_eq!(refused, 0, "{kind:?}"),
+            }
+        }
+    }
+
+    /// What is put before a table leaves it the same program, with other numbers.
+    #[test]
+    fn pushed_up_tables_say_the_same() {
+        let mut random = Random::new(10);
+        for _ in 0..500 {
+            let table = random::table(&mut random, Shape::USUAL);
+            let (old, new) = (check(&table).unwrap(), check(&push_up(&mut random, &table)).unwrap());
+            let functions = new.functions.len() - old.functions.len();
+            let nodes = new.nodes.len() - old.nodes.len();
+            for (x, y) in old.functions.iter().zip(&new.functions[functions..]) {
+                assert_eq!((x.entry, x.first + nodes, x.exit + nodes, x.frame), (y.entry, y.first, y.exit, y.frame));
+            }
+            for (x, y) in old.nodes.iter().zip(&new.nodes[nodes..]) {
+                let target = if matches!(x.sort, Sort::Call | Sort::Spawn) { x.target + functions } else { 0 };
+                assert_eq!((x.sort, x.owner + functions, target), (y.sort, y.owner, y.target));
+            }
+            let edges = new.edges.len() - old.edges.len();
+            assert!(old.edges.iter().zip(&new.edges[edges..]).all(|(x, y)| (x.0 + nodes, x.1 + nodes) == *y));
+            assert!(edges == 0 || new.edges.len() == 1024);
+        }
     }
 }

@@ -4,6 +4,7 @@
 
 mod answers;
 mod input;
+mod refused;
 
 use answers::{first, second, Answers};
 use input::{input, Input, BEHIND, KINDS};
@@ -74,7 +75,7 @@ struct Tally {
 
 impl Tally {
     fn add(&mut self, input: &Input, answers: &Answers) {
-        self.kinds[KINDS.iter().position(|&k| k == input.kind).expect("a kind")] += 1;
+        self.kinds[input.kind as usize] += 1;
         let numbers = [answers.check.0, answers.synchronising.0, answers.one_choice.0, answers.best_choice.0];
         for number in numbers {
             self.numbers[number as usize] += 1;
@@ -92,7 +93,7 @@ impl Tally {
     }
 
     fn print(&self) {
-        let kinds: Vec<String> = KINDS.iter().zip(self.kinds).map(|(k, count)| format!("{count} {k:?}")).collect();
+        let kinds: Vec<String> = KINDS.iter().zip(self.kinds).map(|((k, _), count)| format!("{count} {k:?}")).collect();
         println!("compared {} inputs, no difference: {}", self.kinds.iter().sum::<u64>(), kinds.join(", "));
         println!("  answers by number, 0 to 11: {:?}", self.numbers);
         println!("  choices: {} safe, {} unsafe", self.safe, self.not_safe);

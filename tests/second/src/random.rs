@@ -1,4 +1,4 @@
-//! Random tables for comparisons. All of them are accepted.
+//! Random tables for comparisons. All of them are accepted, unless their shape asks for more than a table may hold.
 
 /// A xorshift generator.
 pub struct Random(u64);
@@ -32,6 +32,17 @@ impl Random {
     }
 }
 
+/// The frames of functions.
+#[derive(Clone, Copy, PartialEq, Eq)]
+pub enum Frames {
+    /// Some of 1 and of little more. In recursion and loops they take many rounds.
+    Small,
+    /// 0, or some thousands and more.
+    Usual,
+    /// 0, or 10,000 and more, so that even long recursion takes few rounds.
+    Large,
+}
+
 /// What a random table may hold.
 #[derive(Clone, Copy)]
 pub struct Shape {
@@ -41,19 +52,32 @@ pub struct Shape {
     pub inner: usize,
     /// At most so many spawns.
     pub spawns: usize,
-    /// Small frames, such as 1, everywhere. In recursion and loops they take many rounds.
-    pub small: bool,
+    pub frames: Frames,
     /// Edges that go back.
     pub loops: bool,
     /// Calls and spawns of the function itself and of earlier ones.
     pub recursion: bool,
-    /// 64 functions, 512 nodes and 1,024 edges, whatever the numbers above say.
-    pub full: bool,
+    /// Just so many functions, each with a call or spawn of the next one, and no other that leads forward: so the
+    /// depths grow with the functions.
+    pub chain: bool,
+    /// At least so many functions, nodes and edges, whatever the numbers above say. Edges ask for loops here.
+    pub fill: [usize; 3],
 }
 
+/// A table may hold no more.
+pub const FULL: [usize; 3] = [64, 512, 1024];
+
 impl Shape {
-    pub const USUAL: Shape =
-        Shape { functions: 5, inner: 5, spawns: 5, small: false, loops: true, recursion: true, full: false };
+    pub const USUAL: Shape = Shape {
+        functions: 5,
+        inner: 5,
+        spawns: 5,
+        frames: Frames::Usual,
+        loops: true,
+        recursion: true,
+        chain: false,
+        fill: [0; 3],
+    };
 }
 
 pub fn record(kind: u8, sort: u8, a: usize, b: usize, c: usize) -> [u8; 8] {
@@ -61,17 +85,17 @@ pub fn record(kind: u8, sort: u8, a: usize, b: usize, c: usize) -> [u8; 8] {
     [kind, sort, a[0], a[1], b[0], b[1], c[0], c[1]]
 }
 
-fn frame(random: &mut Random, small: bool) -> usize {
-    let pick = random.below(12);
-    match pick {
+fn frame(random: &mut Random, frames: Frames) -> usize {
+    match random.below(12) {
         0..=3 => 0,
         4 => 65_535,
         5 => 65_534,
         6 => 21_845 + random.below(2),
         7 => 32_767 + random.below(2),
         8 | 9 => 10_000 + random.below(50_000),
-        10 if small => 1,
-        11 if small => 2 + random.below(60),
+        10 if frames == Frames::Small => 1,
+        11 if frames == Frames::Small => 2 + random.below(60),
+        10 | 11 if frames == Frames::Large => 16_384 + random.below(16_384),
         _ => 4_000 + random.below(4_000),
     }
 }
@@ -89,6 +113,11 @@ impl Function {
         self.line[0]
     }
 
+    /// The nodes that may be other than plain.
+    fn inner(&self) -> &[usize] {
+        &self.line[1..self.line.len() - !self.single as usize]
+    }
+
     fn exit(&self) -> usize {
         if self.single {
             return self.line[0];
@@ -99,17 +128,18 @@ impl Function {
 
 /// The owner of each node, and the functions with their nodes.
 fn functions(random: &mut Random, shape: Shape) -> (Vec<usize>, Vec<Function>) {
-    let count = if shape.full { 64 } else { 1 + random.below(shape.functions) };
+    let count = if shape.chain { shape.functions } else { 1 + random.below(shape.functions) };
+    let count = count.max(shape.fill[0]);
     let mut owners: Vec<usize> = Vec::new();
     let mut all = Vec::new();
     for f in 0..count {
         let single = random.once_in(6);
         // Mostly some, so that few tables have no spawn.
-        let inner = if random.once_in(5) { 0 } else { 1 + random.below(shape.inner) };
+        let inner = if !shape.chain && random.once_in(5) { 0 } else { 1 + random.below(shape.inner) };
         owners.extend(vec![f; inner + if single { 1 } else { 2 }]);
         all.push(Function { single, line: Vec::new() });
     }
-    while shape.full && owners.len() < 512 {
+    while owners.len() < shape.fill[1] {
         owners.push(random.below(count));
     }
     // The nodes stand anywhere.
@@ -130,7 +160,11 @@ fn functions(random: &mut Random, shape: Shape) -> (Vec<usize>, Vec<Function>) {
 /// The target of a call or spawn in f, a later function twice as often as any. None if there is none to be had.
 fn target(random: &mut Random, shape: Shape, f: usize, functions: usize) -> Option<usize> {
     if shape.recursion && (random.once_in(3) || f + 1 == functions) {
-        return Some(random.below(functions));
+        // In a chain the function itself, or one of the three before it.
+        return Some(if shape.chain { f - random.below(f.min(3) + 1) } else { random.below(functions) });
+    }
+    if shape.chain && f + 1 < functions {
+        return Some(f + 1);
     }
     if f + 1 == functions {
         return None;
@@ -138,33 +172,43 @@ fn target(random: &mut Random, shape: Shape, f: usize, functions: usize) -> Opti
     Some(f + 1 + random.below(functions - f - 1))
 }
 
+/// Sort and target of a node, with at most so many spawns left.
+fn sort(random: &mut Random, target: usize, spawns: usize) -> (u8, usize) {
+    match random.below(12) {
+        0 => (0, 0),
+        1 => (3, 0),
+        2 | 3 => (1, target),
+        4 | 5 if spawns == 0 => (0, 0),
+        _ if spawns == 0 => (1, target),
+        _ => (2, target),
+    }
+}
+
 /// Sort and target of each node.
 fn sorts(random: &mut Random, shape: Shape, functions: &[Function], nodes: usize) -> Vec<(u8, usize)> {
     let mut sorts = vec![(0, 0); nodes];
-    let mut spawns = 0;
-    for (f, function) in functions.iter().enumerate() {
-        for &n in &function.line {
-            if n == function.first() || n == function.exit() {
-                continue;
-            }
+    let mut spawns = shape.spawns;
+    // In any order, so that no function takes all spawns.
+    let mut order: Vec<usize> = (0..functions.len()).collect();
+    random.shuffle(&mut order);
+    for f in order {
+        let function = &functions[f];
+        for &n in function.inner() {
             let Some(target) = target(random, shape, f, functions.len()) else { continue };
-            sorts[n] = match random.below(12) {
-                0 => (0, 0),
-                1 => (3, 0),
-                2 | 3 => (1, target),
-                4 | 5 if spawns == shape.spawns => (0, 0),
-                _ if spawns == shape.spawns => (1, target),
-                _ => {
-                    spawns += 1;
-                    (2, target)
-                }
-            };
+            sorts[n] = sort(random, target, spawns);
+            spawns -= (sorts[n].0 == 2) as usize;
         }
         // Sometimes a sync before the exit: nothing is left on the stack there, and more spawns may be merged.
         if !function.single && function.line.len() > 2 && random.once_in(3) {
             let n = function.line[function.line.len() - 2];
-            spawns -= (sorts[n].0 == 2) as usize;
+            spawns += (sorts[n].0 == 2) as usize;
             sorts[n] = (3, 0);
+        }
+        if shape.chain && f + 1 < functions.len() {
+            let n = function.inner()[random.below(function.inner().len())];
+            spawns += (sorts[n].0 == 2) as usize;
+            sorts[n] = (1 + (spawns > 0) as u8, f + 1);
+            spawns -= (sorts[n].0 == 2) as usize;
         }
     }
     sorts
@@ -192,7 +236,7 @@ fn edges(random: &mut Random, shape: Shape, functions: &[Function]) -> Vec<(usiz
             edges.extend(any_edge(random, shape, &function.line));
         }
     }
-    while shape.full && edges.len() < 1024 {
+    while edges.len() < shape.fill[2] {
         let f = random.below(functions.len());
         edges.extend(any_edge(random, shape, &functions[f].line));
     }
@@ -204,18 +248,24 @@ pub fn table(random: &mut Random, shape: Shape) -> Vec<u8> {
     let (owners, functions) = functions(random, shape);
     let sorts = sorts(random, shape, &functions, owners.len());
     let edges = edges(random, shape, &functions);
+    // The functions stand anywhere, too.
+    let mut places: Vec<usize> = (0..functions.len()).collect();
+    if random.once_in(2) {
+        random.shuffle(&mut places);
+    }
     let an_entry = if random.once_in(4) { random.below(functions.len()) } else { 0 };
-    let mut bytes = Vec::new();
+    let mut records = vec![[0; 8]; functions.len()];
     for (f, function) in functions.iter().enumerate() {
-        let entry = f == an_entry || random.once_in(8);
-        let frame = frame(random, shape.small);
-        bytes.extend(record(1, entry as u8, function.first(), function.exit(), frame));
+        let entry = f == an_entry || random.once_in(if shape.chain { 40 } else { 8 });
+        let frame = frame(random, shape.frames);
+        records[places[f]] = record(1, entry as u8, function.first(), function.exit(), frame);
     }
     for (&f, &(sort, target)) in owners.iter().zip(&sorts) {
-        bytes.extend(record(2, sort, f, target, 0));
+        let target = if sort == 1 || sort == 2 { places[target] } else { 0 };
+        records.push(record(2, sort, places[f], target, 0));
     }
     for (u, v) in edges {
-        bytes.extend(record(3, 0, u, v, 0));
+        records.push(record(3, 0, u, v, 0));
     }
-    bytes
+    records.concat()
 }

@@ -1,7 +1,7 @@
 //! The walk against all choices, on small random tables.
 
 use second::choice::{greedy, greedy_in, order, unbeaten};
-use second::random::{self, Random, Shape};
+use second::random::{self, Frames, Random, Shape};
 use second::table::check;
 
 fn compare(seed: u64, tables: usize, shape: Shape) {
@@ -25,24 +25,24 @@ fn compare(seed: u64, tables: usize, shape: Shape) {
 
 #[test]
 fn large_frames() {
-    compare(1, 6_000, Shape { functions: 5, inner: 5, spawns: 5, small: false, ..Shape::USUAL });
+    compare(1, 6_000, Shape { functions: 5, inner: 5, spawns: 5, frames: Frames::Usual, ..Shape::USUAL });
 }
 
 #[test]
 fn small_frames() {
-    compare(2, 80, Shape { functions: 4, inner: 4, spawns: 3, small: true, ..Shape::USUAL });
+    compare(2, 80, Shape { functions: 4, inner: 4, spawns: 3, frames: Frames::Small, ..Shape::USUAL });
 }
 
 /// Takes minutes: cargo test -- --ignored
 #[test]
 #[ignore]
 fn many_tables() {
-    compare(3, 60_000, Shape { functions: 6, inner: 5, spawns: 6, small: false, ..Shape::USUAL });
+    compare(3, 60_000, Shape { functions: 6, inner: 5, spawns: 6, frames: Frames::Usual, ..Shape::USUAL });
 }
 
 /// The same.
 #[test]
 #[ignore]
 fn many_tables_with_small_frames() {
-    compare(4, 5_000, Shape { functions: 4, inner: 4, spawns: 3, small: true, ..Shape::USUAL });
+    compare(4, 5_000, Shape { functions: 4, inner: 4, spawns: 3, frames: Frames::Small, ..Shape::USUAL });
 }
