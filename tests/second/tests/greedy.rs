@@ -1,8 +1,8 @@
 //! The walk against all choices, on small random tables.
 
-use second::choice::{greedy, greedy_in, order, unbeaten};
+use second::choice::{depths, greedy, greedy_in, order, unbeaten};
 use second::random::{self, Frames, Random, Shape};
-use second::table::check;
+use second::table::{check, Sort};
 
 fn compare(seed: u64, tables: usize, shape: Shape) {
     let mut random = Random::new(seed);
@@ -33,16 +33,36 @@ fn small_frames() {
     compare(2, 80, Shape { functions: 4, inner: 4, spawns: 3, frames: Frames::Small, ..Shape::USUAL });
 }
 
-/// Takes minutes: cargo test -- --ignored
 #[test]
-#[ignore]
-fn many_tables() {
-    compare(3, 60_000, Shape { functions: 6, inner: 5, spawns: 6, frames: Frames::Usual, ..Shape::USUAL });
+fn chains() {
+    let shape = Shape { functions: 6, inner: 3, spawns: 6, frames: Frames::Large, chain: true, ..Shape::USUAL };
+    compare(3, 600, shape);
 }
 
-/// The same.
+/// "the fewest calls and spawns from an entry to it; entries have 0, and so has one that no entry reaches", one call or
+/// spawn after another.
 #[test]
-#[ignore]
-fn many_tables_with_small_frames() {
-    compare(4, 5_000, Shape { functions: 4, inner: 4, spawns: 3, frames: Frames::Small, ..Shape::USUAL });
+fn depths_by_steps() {
+    let mut random = Random::new(4);
+    let mut deepest = 0;
+    for _ in 0..2_000 {
+        let shape = Shape { functions: 1 + random.below(16), inner: 2, chain: random.once_in(2), ..Shape::USUAL };
+        let program = check(&random::table(&mut random, shape)).unwrap();
+        let count = program.functions.len();
+        let mut expected = vec![0; count];
+        let mut reached: Vec<bool> = program.functions.iter().map(|f| f.entry).collect();
+        for steps in 1..=count {
+            let mut next = reached.clone();
+            for node in program.nodes.iter().filter(|node| matches!(node.sort, Sort::Call | Sort::Spawn)) {
+                if reached[node.owner] && !next[node.target] {
+                    next[node.target] = true;
+                    expected[node.target] = steps;
+                }
+            }
+            reached = next;
+        }
+        assert_eq!(depths(&program), expected);
+        deepest = deepest.max(*expected.iter().max().unwrap());
+    }
+    assert!(deepest >= 10);
 }
