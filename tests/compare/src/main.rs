@@ -1,24 +1,33 @@
 //! Compares the proved library with the second implementation on random tables, choices and buffers. Prints how many
-//! inputs of each kind were compared, or the first difference, and then ends with status 1.
-//! Options: `--count N`, `--seed S`, and `--from N`, the number of the first input.
+//! inputs of each kind were compared and what came up in them, or the first difference, and then ends with status 1.
+//! Options: `--count N`, `--seed S`, `--from N`, the number of the first input, and `--threads N`, which changes nothing
+//! but the time. With the usual count or more, it also ends with status 1 if something came up too seldom, which
+//! `tally.rs` says; with fewer inputs nothing is demanded of them.
 
 mod answers;
 mod input;
 mod refused;
+mod run;
+mod tally;
 
 use answers::{first, second, Answers};
-use input::{input, Input, BEHIND, KINDS};
+use input::{input, BEHIND};
+use run::run;
 use std::fmt::Debug;
 
-struct Options {
+/// As many inputs as the demands are made for.
+pub const COUNT: u64 = 300_000;
+
+pub struct Options {
     count: u64,
     seed: u64,
     from: u64,
+    threads: u64,
 }
 
-fn options() -> Result<Options, String> {
-    let mut options = Options { count: 30_000, seed: 1, from: 0 };
-    let mut words = std::env::args().skip(1);
+fn options(mut words: impl Iterator<Item = String>) -> Result<Options, String> {
+    let cores = std::thread::available_parallelism().map_or(1, |n| n.get() as u64);
+    let mut options = Options { count: COUNT, seed: 1, from: 0, threads: cores };
     while let Some(word) = words.next() {
         let value = words.next().ok_or(format!("{word}: a number is missing"))?;
         let value = value.parse().map_err(|_| format!("{word}: {value} is no number"))?;
@@ -26,9 +35,17 @@ fn options() -> Result<Options, String> {
             "--count" => options.count = value,
             "--seed" => options.seed = value,
             "--from" => options.from = value,
+            "--threads" => options.threads = value,
             _ => return Err(format!("{word}: no such option")),
         }
     }
+    if options.count == 0 || options.threads == 0 {
+        return Err("nothing would be compared".to_string());
+    }
+    if options.from.checked_add(options.count).is_none() {
+        return Err("--from: the numbers end before that many inputs".to_string());
+    }
+    options.threads = options.threads.min(cores);
     Ok(options)
 }
 
@@ -51,7 +68,9 @@ fn hex(bytes: &[u8]) -> String {
     bytes.chunks(8).map(|r| r.iter().map(|b| format!("{b:02x}")).collect::<String>()).collect::<Vec<_>>().join(" ")
 }
 
-fn report(seed: u64, number: u64, input: &Input, what: &str) {
+fn report(seed: u64, number: u64) {
+    let input = input(seed, number);
+    let what = difference(&first(&input), &second(&input)).expect("a difference once more");
     println!("difference at input {number} of seed {seed}, {:?}: {what}", input.kind);
     println!("  table: {}", hex(&input.table));
     println!("  choice: {}", hex(&input.choice));
@@ -59,64 +78,30 @@ fn report(seed: u64, number: u64, input: &Input, what: &str) {
     println!("  lengths: words {}, verdicts {}, sizes {}", words - BEHIND, verdicts - BEHIND, sizes - BEHIND);
 }
 
-/// How telling the inputs were.
-#[derive(Default)]
-struct Tally {
-    kinds: [u64; KINDS.len()],
-    /// How often each number was returned, by any of the calls.
-    numbers: [u64; 12],
-    /// Choices found safe, and unsafe.
-    safe: u64,
-    not_safe: u64,
-    /// Best choices that merge a spawn, and of these those that also leave one unmerged or guard one.
-    merged: u64,
-    mixed: u64,
-}
-
-impl Tally {
-    fn add(&mut self, input: &Input, answers: &Answers) {
-        self.kinds[input.kind as usize] += 1;
-        let numbers = [answers.check.0, answers.synchronising.0, answers.one_choice.0, answers.best_choice.0];
-        for number in numbers {
-            self.numbers[number as usize] += 1;
-        }
-        if answers.one_choice.0 == 0 {
-            self.safe += answers.one_choice.2 as u64;
-            self.not_safe += 1 - answers.one_choice.2 as u64;
-        }
-        if answers.best_choice.0 == 0 {
-            let choice = &answers.best_choice.2[..answers.check.1[1]];
-            let has = |byte: u8| choice.contains(&byte);
-            self.merged += (has(2) || has(3)) as u64;
-            self.mixed += (has(1) as u8 + has(2) as u8 + has(3) as u8 > 1) as u64;
-        }
-    }
-
-    fn print(&self) {
-        let kinds: Vec<String> = KINDS.iter().zip(self.kinds).map(|((k, _), count)| format!("{count} {k:?}")).collect();
-        println!("compared {} inputs, no difference: {}", self.kinds.iter().sum::<u64>(), kinds.join(", "));
-        println!("  answers by number, 0 to 11: {:?}", self.numbers);
-        println!("  choices: {} safe, {} unsafe", self.safe, self.not_safe);
-        println!("  best choices: {} merge a spawn, {} have different verdicts", self.merged, self.mixed);
-    }
-}
-
 fn main() {
-    let options = options().unwrap_or_else(|text| {
+    let options = options(std::env::args().skip(1)).unwrap_or_else(|text| {
         eprintln!("{text}");
         std::process::exit(2);
     });
-    let mut tally = Tally::default();
-    for number in options.from..options.from + options.count {
-        let input = input(options.seed, number);
-        let (found, expected) = (first(&input), second(&input));
-        if let Some(what) = difference(&found, &expected) {
-            report(options.seed, number, &input, &what);
-            std::process::exit(1);
-        }
-        tally.add(&input, &expected);
-    }
+    // Said beforehand, so that it is known of a run that breaks off, too.
+    println!("comparing {} inputs of seed {} from input {}", options.count, options.seed, options.from);
+    let tally = run(&options, |input| (first(input), second(input))).unwrap_or_else(|number| {
+        report(options.seed, number);
+        std::process::exit(1);
+    });
+    println!("no difference in {} inputs of seed {}", options.count, options.seed);
     tally.print();
+    if options.count < COUNT {
+        println!("nothing is demanded of fewer than {COUNT} inputs");
+        return;
+    }
+    let seldom = tally.seldom();
+    for line in &seldom {
+        println!("too seldom in seed {}: {line}", options.seed);
+    }
+    if !seldom.is_empty() {
+        std::process::exit(1);
+    }
 }
 
 #[cfg(test)]
@@ -158,6 +143,21 @@ mod tests {
             let (x, y) = (input(7, number), input(7, number));
             assert!(x.table == y.table && x.choice == y.choice && x.sizes == y.sizes);
             assert!(x.table != input(8, number).table);
+        }
+    }
+
+    fn given(words: &str) -> Result<Options, String> {
+        options(words.split_whitespace().map(str::to_string))
+    }
+
+    #[test]
+    fn options_are_read() {
+        let usual = given("").expect("options");
+        assert_eq!((usual.count, usual.seed, usual.from), (COUNT, 1, 0));
+        let all = given("--count 5 --seed 6 --from 7 --threads 1").expect("options");
+        assert_eq!((all.count, all.seed, all.from, all.threads), (5, 6, 7, 1));
+        for wrong in ["--count 0", "--threads 0", "--count", "--count x", "--help 1", "--from 18446744073709551615"] {
+            assert!(given(wrong).is_err(), "{wrong}");
         }
     }
 }

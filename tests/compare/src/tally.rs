@@ -1,0 +1,222 @@
+//! What came up in the inputs, and how often it has to.
+
+use crate::answers::Answers;
+use crate::input::{Input, KINDS};
+use second::choice::depths;
+use second::table::{check, Program, Sort};
+
+const CALLS: [&str; 4] = ["check", "synchronising", "one choice", "best choice"];
+
+/// What is counted beside kinds and refusals.
+#[derive(Clone, Copy, PartialEq, Eq, Debug)]
+enum Seen {
+    Safe,
+    Unsafe,
+    WrongBytes,
+    Guarded,
+    Unguarded,
+    Unmerged,
+    Mixed,
+    Deep,
+    Many,
+    Functions,
+    Nodes,
+    Edges,
+    Longest,
+    OneFunctionMore,
+    OneNodeMore,
+    OneEdgeMore,
+    LastNode,
+}
+
+/// The least number of each in `COUNT` inputs.
+const SEEN: [(Seen, &str, u64); 17] = [
+    (Seen::Safe, "choices found safe", 60_000),
+    (Seen::Unsafe, "choices found unsafe", 30_000),
+    (Seen::WrongBytes, "choices with more than one wrong byte", 10_000),
+    (Seen::Guarded, "spawns merged guarded by a best choice", 60_000),
+    (Seen::Unguarded, "spawns merged unguarded by a best choice", 150_000),
+    (Seen::Unmerged, "spawns left unmerged by a best choice", 100_000),
+    (Seen::Mixed, "best choices with different verdicts", 30_000),
+    (Seen::Deep, "accepted tables with a spawn of depth 10 or more", 4_000),
+    (Seen::Many, "accepted tables with 20 spawns or more", 6_000),
+    (Seen::Functions, "accepted tables with 64 functions", 1_500),
+    (Seen::Nodes, "accepted tables with 512 nodes", 2_000),
+    (Seen::Edges, "accepted tables with 1,024 edges", 1_000),
+    (Seen::Longest, "accepted tables of 12,800 bytes", 500),
+    (Seen::OneFunctionMore, "tables refused for a 65th function", 1_000),
+    (Seen::OneNodeMore, "tables refused for a 513th node", 1_000),
+    (Seen::OneEdgeMore, "tables refused for a 1,025th edge", 1_000),
+    (Seen::LastNode, "spawns in node 511 merged by a best choice", 100),
+];
+
+/// The least number of inputs of a kind, and of each refusal of each call.
+const LEAST_OF_A_KIND: u64 = 20;
+const LEAST_REFUSALS: u64 = 1_500;
+
+#[derive(Clone, Default, PartialEq, Eq, Debug)]
+pub struct Tally {
+    kinds: [u64; KINDS.len()],
+    /// How often each number was returned by each of the calls.
+    numbers: [[u64; 12]; CALLS.len()],
+    seen: [u64; SEEN.len()],
+}
+
+/// The refusals of a call.
+fn refusals(call: usize) -> impl Iterator<Item = usize> {
+    (1..=11).filter(move |&number| match number {
+        9 => call == 2,
+        10 => call == 3,
+        11 => call >= 2,
+        _ => true,
+    })
+}
+
+/// Whether the choice is as long as it should be, and wrong in two nodes or more.
+fn wrong_bytes(program: &Program, choice: &[u8]) -> bool {
+    let spawns = program.nodes.iter().map(|node| node.sort == Sort::Spawn);
+    let wrong = spawns.zip(choice).filter(|&(spawn, &byte)| (1..=3).contains(&byte) != spawn || byte > 3);
+    choice.len() == program.nodes.len() && wrong.count() > 1
+}
+
+impl Tally {
+    fn see(&mut self, what: Seen, times: usize) {
+        self.seen[what as usize] += times as u64;
+    }
+
+    pub fn add(&mut self, input: &Input, answers: &Answers) {
+        self.kinds[input.kind as usize] += 1;
+        let numbers = [answers.check.0, answers.synchronising.0, answers.one_choice.0, answers.best_choice.0];
+        for (call, number) in numbers.into_iter().enumerate() {
+            self.numbers[call][number as usize] += 1;
+        }
+        match check(&input.table) {
+            Ok(program) => self.add_accepted(&program, input, answers),
+            Err((4, place)) => {
+                let more = [Seen::OneFunctionMore, Seen::OneNodeMore, Seen::OneEdgeMore];
+                self.see(more[input.table[8 * place] as usize - 1], 1);
+            }
+            _ => {}
+        }
+    }
+
+    fn add_accepted(&mut self, program: &Program, input: &Input, answers: &Answers) {
+        let spawns: Vec<usize> = (0..program.nodes.len()).filter(|&n| program.nodes[n].sort == Sort::Spawn).collect();
+        let depths = depths(program);
+        self.see(Seen::Deep, spawns.iter().any(|&s| depths[program.nodes[s].owner] >= 10) as usize);
+        self.see(Seen::Many, (spawns.len() >= 20) as usize);
+        self.see(Seen::Functions, (program.functions.len() == 64) as usize);
+        self.see(Seen::Nodes, (program.nodes.len() == 512) as usize);
+        self.see(Seen::Edges, (program.edges.len() == 1024) as usize);
+        self.see(Seen::Longest, (input.table.len() == 12_800) as usize);
+        if answers.one_choice.0 == 0 {
+            self.see(if answers.one_choice.2 == 1 { Seen::Safe } else { Seen::Unsafe }, 1);
+        }
+        self.see(Seen::WrongBytes, wrong_bytes(program, &input.choice) as usize);
+        if answers.best_choice.0 == 0 {
+            self.add_best(&spawns, &answers.best_choice.2);
+        }
+    }
+
+    fn add_best(&mut self, spawns: &[usize], choice: &[u8]) {
+        let with = |byte: u8| spawns.iter().filter(|&&s| choice[s] == byte).count();
+        self.see(Seen::Unmerged, with(1));
+        self.see(Seen::Guarded, with(2));
+        self.see(Seen::Unguarded, with(3));
+        self.see(Seen::Mixed, ([1, 2, 3].iter().filter(|&&byte| with(byte) > 0).count() > 1) as usize);
+        self.see(Seen::LastNode, (spawns.last() == Some(&511) && choice[511] >= 2) as usize);
+    }
+
+    /// Adds what came up in other inputs.
+    pub fn join(&mut self, other: &Tally) {
+        let mine = self.kinds.iter_mut().chain(self.numbers.as_flattened_mut()).chain(&mut self.seen);
+        let others = other.kinds.iter().chain(other.numbers.as_flattened()).chain(&other.seen);
+        mine.zip(others).for_each(|(x, y)| *x += y);
+    }
+
+    pub fn print(&self) {
+        let kinds: Vec<String> = KINDS.iter().zip(self.kinds).map(|((k, _), count)| format!("{count} {k:?}")).collect();
+        println!("  {}", kinds.join(", "));
+        for (call, numbers) in CALLS.iter().zip(self.numbers) {
+            println!("  {call}: answers by number, 0 to 11: {numbers:?}");
+        }
+        for ((_, what, _), count) in SEEN.iter().zip(self.seen) {
+            println!("  {what}: {count}");
+        }
+    }
+
+    /// What came up less often than it has to.
+    pub fn seldom(&self) -> Vec<String> {
+        let mut demands = Vec::new();
+        for ((kind, _), count) in KINDS.iter().zip(self.kinds) {
+            demands.push((format!("inputs of the kind {kind:?}"), count, LEAST_OF_A_KIND));
+        }
+        for (call, numbers) in self.numbers.iter().enumerate() {
+            for number in refusals(call) {
+                demands.push((format!("{}, refusal {number}", CALLS[call]), numbers[number], LEAST_REFUSALS));
+            }
+        }
+        for (&(_, what, least), count) in SEEN.iter().zip(self.seen) {
+            demands.push((what.to_string(), count, least));
+        }
+        demands.retain(|&(_, count, least)| count < least);
+        demands.iter().map(|(what, count, least)| format!("{what}: {count} of at least {least}")).collect()
+    }
+}
+
+#[cfg(test)]
+mod tests {
+    use super::*;
+
+    /// A tally in which everything came up just as often as it has to.
+    fn enough() -> Tally {
+        let numbers = [[LEAST_REFUSALS; 12]; CALLS.len()];
+        Tally { kinds: [LEAST_OF_A_KIND; KINDS.len()], numbers, seen: SEEN.map(|(_, _, least)| least) }
+    }
+
+    #[test]
+    fn what_is_seen_stands_in_order() {
+        assert!(SEEN.iter().enumerate().all(|(i, &(what, _, least))| what as usize == i && least > 0));
+    }
+
+    #[test]
+    fn one_less_of_anything_is_too_seldom() {
+        assert!(enough().seldom().is_empty());
+        for kind in 0..KINDS.len() {
+            let mut tally = enough();
+            tally.kinds[kind] -= 1;
+            assert_eq!(tally.seldom().len(), 1);
+        }
+        for call in 0..CALLS.len() {
+            for number in 0..12 {
+                let mut tally = enough();
+                tally.numbers[call][number] -= 1;
+                assert_eq!(tally.seldom().len(), refusals(call).filter(|&n| n == number).count());
+            }
+        }
+        for what in 0..SEEN.len() {
+            let mut tally = enough();
+            tally.seen[what] -= 1;
+            assert_eq!(tally.seldom().len(), 1);
+        }
+    }
+
+    /// "9 arises where a choice is handed in, 10 in the best-choice call, 11 where sizes are written."
+    #[test]
+    fn the_refusals_of_each_call() {
+        let all: Vec<Vec<usize>> = (0..4).map(|call| refusals(call).collect()).collect();
+        assert_eq!(all[0], [1, 2, 3, 4, 5, 6, 7, 8]);
+        assert_eq!(all[1], [1, 2, 3, 4, 5, 6, 7, 8]);
+        assert_eq!(all[2], [1, 2, 3, 4, 5, 6, 7, 8, 9, 11]);
+        assert_eq!(all[3], [1, 2, 3, 4, 5, 6, 7, 8, 10, 11]);
+    }
+
+    #[test]
+    fn joined_tallies_are_added() {
+        let mut tally = enough();
+        tally.join(&enough());
+        assert_eq!(tally.kinds, [2 * LEAST_OF_A_KIND; KINDS.len()]);
+        assert_eq!(tally.numbers, [[2 * LEAST_REFUSALS; 12]; CALLS.len()]);
+        assert_eq!(tally.seen, SEEN.map(|(_, _, least)| 2 * least));
+    }
+}
