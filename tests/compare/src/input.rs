@@ -45,7 +45,7 @@ pub enum Kind {
     Damaged,
     /// The same of a full one.
     FullDamaged,
-    /// A small table that two checks apply to, mostly neighbouring ones.
+    /// A small table, or one like `Last`, that two checks apply to, mostly neighbouring ones.
     Refused,
 }
 
@@ -263,7 +263,13 @@ fn table(random: &mut Random, kind: Kind) -> Vec<u8> {
             table = push_up(random, &table);
         }
         Kind::Limits if random.once_in(8) => table.extend(vec![0; 1 + random.below(8)]),
-        Kind::Refused => table = refused(random, &table),
+        Kind::Refused => {
+            // A large one now and then, so that each check applies in the last records, too.
+            if random.once_in(4) {
+                table = push_up(random, &table);
+            }
+            table = refused(random, &table);
+        }
         _ => {}
     }
     table
@@ -288,7 +294,8 @@ fn choice(random: &mut Random, program: Option<&Program>) -> Vec<u8> {
     if random.once_in(8) && !choice.is_empty() {
         for _ in 0..1 + random.below(4) {
             let n = random.below(choice.len());
-            choice[n] = if random.once_in(4) { random.next() as u8 } else { random.below(6) as u8 };
+            choice[n] =
+                if random.once_in(4) { [random.next() as u8, 255][random.below(2)] } else { random.below(6) as u8 };
         }
     }
     choice
