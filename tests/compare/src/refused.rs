@@ -31,8 +31,12 @@ fn end(records: &Records, kind: u8) -> usize {
     records.iter().filter(|r| r[0] <= kind).count()
 }
 
+/// A record of some sort, the last one rather often.
 fn any(random: &mut Random, records: &Records, which: impl Fn(&[u8; 8]) -> bool) -> Option<usize> {
     let places: Vec<usize> = (0..records.len()).filter(|&i| which(&records[i])).collect();
+    if random.once_in(3) {
+        return places.last().copied();
+    }
     (!places.is_empty()).then(|| places[random.below(places.len())])
 }
 
@@ -123,10 +127,10 @@ const APPLY: [fn(&mut Random, &mut Records); 7] = [apply_2, apply_3, apply_4, ap
 
 /// Mostly makes two neighbouring checks apply, else one or any two.
 pub fn refused(random: &mut Random, table: &[u8]) -> Vec<u8> {
-    let low = 1 + random.below(7);
+    let (any, low) = (1 + random.below(8), 1 + random.below(7));
     let pair = match random.below(6) {
-        0 => [low, low],
-        1 => [low, 1 + random.below(8)],
+        0 => [any, any],
+        1 => [any, low],
         _ => [low, low + 1],
     };
     let mut records = records(table);
