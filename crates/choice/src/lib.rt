@@ -44,7 +44,8 @@ pub fn counted(t: &[u8], verdicts: &mut [u8], sizes: &mut [u32]) -> Result<Work,
     ensures leaves { LeavesBoth t.now verdicts.old verdicts.new sizes.old sizes.new result }
 {
     let known = admit(t, verdicts.len(), sizes.len())?;
-    let found = with_prepared(&known, search::find);
+    let mut found = Found::unmerged(&known.program);
+    with_prepared(&known, &mut found, search::find);
     write(&known.program, &found, verdicts, sizes);
     Ok(found.work)
 }

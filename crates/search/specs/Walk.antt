@@ -1,5 +1,5 @@
 -- The two walks of the search for the best choice. Helps proofs only.
-use Rattle.std.specs.Prelude.{◌≡◌, ℕ, suc, ◌-◌, ◌<◌, ◌≤◌, cond, ◌⊎◌, ◌==◌, ◌≢◌}
+use Rattle.std.specs.Prelude.{◌≡◌, ℕ, suc, ◌-◌, ◌<◌, ◌≤◌, cond, ◌⊎◌, ◌==◌, ◌≢◌, replicate}
 use Rattle.table.specs.Record.{spawn}
 use Rattle.table.specs.Program.{Program}
 use Rattle.rules.specs.Choice.{unmerged, guarded, unguarded}
@@ -18,6 +18,10 @@ OthersZero g c = (n : ℕ) → n < g.nodes → (g.sort n ≢ spawn) → c n ≡ 
 pub record Unmerged (g : Program) (c : ℕ → ℕ) : Type 0 where
   pub spawns : (n : ℕ) → IsSpawn g n → c n ≡ unmerged
   pub others : OthersZero g c
+
+-- From where a search starts: unmerged everywhere, with zeros for the sizes.
+abbrev pub Starts : Program → Found → Type 0
+Starts g found = Unmerged g (choice_of found.verdicts) × (found.sizes ≡ replicate 2304 0)
 
 -- the verdict k for the one below it, and every other as it is
 abbrev pub raised_to : ℕ → ℕ → ℕ

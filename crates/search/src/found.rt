@@ -21,7 +21,7 @@ pub struct Found {
 impl Found {
     // Unmerged everywhere, with zeros for its sizes.
     #[tactic(auto, using(crate::proofs::Starting::started_spawn, crate::proofs::Starting::started_other, crate::proofs::Starting::started_all))]
-    pub(crate) fn unmerged(program: &Program<'_>) -> Found
+    pub fn unmerged(program: &Program<'_>) -> Found
         ensures unmerged { Unmerged (program_of program.now.table.now) (choice_of result.verdicts) }
         ensures zeros { result.sizes ≡ replicate 2304 0 }
     {

@@ -8,8 +8,8 @@ mod verdict;
 mod walks;
 mod work;
 
-ghost use Rattle.sizes.specs.Trials.{PreparedFor};
-ghost use Rattle.search.specs.Walk.{Searched};
+ghost use Rattle.sizes.specs.Trials.{known_program, PreparedFor};
+ghost use Rattle.search.specs.Walk.{Searched, Starts};
 
 pub use found::Found;
 use preference::order::in_order;
@@ -18,11 +18,11 @@ use sizes::trials::Prepared;
 use verdict::Verdict;
 pub use work::Work;
 
-// What two walks come to for a prepared table.
+// What two walks come to for a prepared table, from unmerged everywhere.
 #[tactic(auto, using(preference::proofs::Firsts::order_cut))]
-pub fn find(prepared: &Prepared<'_>) -> Found
-    requires { PreparedFor prepared.now }
-    ensures { Searched prepared.now result }
+pub fn find(found: &mut Found, prepared: &Prepared<'_>)
+    requires { PreparedFor prepared.now × Starts (known_program prepared.now.known) found.old }
+    ensures { Searched prepared.now found.new }
 {
     let program = &prepared.known.program;
     let order = in_order(program);
@@ -30,8 +30,6 @@ pub fn find(prepared: &Prepared<'_>) -> Found
         prepared,
         order: order.as_slice(),
     };
-    let mut found = Found::unmerged(program);
     found.merge(&problem);
     found.walk(&problem, Verdict::Unguarded);
-    found
 }

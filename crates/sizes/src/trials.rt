@@ -16,22 +16,29 @@ pub struct Prepared<'a> {
     pub words: &'a [u64],
 }
 
-// Prepares a table for trials, hands it to a closure, and answers what that does.
-pub fn with_prepared<R, F: FnOnce(&Prepared<'_>) -> R>(known: &Known<'_>, take: F) -> R
-    requires { Looked known.now × TakesPrepared known.now F.FnOnce take }
-    ensures { MadeOfPrepared known.now F.FnOnce take result }
+// Prepares a table for trials, hands it to a closure with what this changes, and answers what that does.
+pub fn with_prepared<S, R, F: FnOnce(&mut S, &Prepared<'_>) -> R>(
+    known: &Known<'_>,
+    state: &mut S,
+    take: F,
+) -> R
+    requires { Looked known.now × TakesPrepared known.now F.FnOnce take state.old }
+    ensures { MadeOfPrepared known.now F.FnOnce take state.old state.new result }
 {
     with_widest(
         known,
-        &mut (),
-        |_, words|
-            requires { PreparedFrom known.now words.now × TakesPrepared known.now F.FnOnce take }
-            ensures { MadeOfPrepared known.entry.now F.FnOnce take result }
+        state,
+        |state, words|
+            requires { PreparedFrom known.now words.now × TakesPrepared known.now F.FnOnce take state.old }
+            ensures { MadeOfPrepared known.entry.now F.FnOnce take state.old state.new result }
         {
-            take(&Prepared {
-                known: *known,
-                words,
-            })
+            take(
+                state,
+                &Prepared {
+                    known: *known,
+                    words,
+                },
+            )
         },
     )
 }

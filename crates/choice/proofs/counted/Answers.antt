@@ -1,6 +1,4 @@
-use Rattle.table.specs.Program.{program_of}
 use Rattle.search.specs.Walk.{Searched}
-use Rattle.choice.specs.Best.{BestOf}
 use Rattle.choice.proofs.Calls.{done_fits}
 use Rattle.choice.proofs.Leaving.{best_leaves}
 use Rattle.choice.proofs.Winning.{searched_best}
@@ -13,8 +11,8 @@ write-requires c =
 
 pub returns-clause-leaves : goal.returns-clause-leaves
 returns-clause-leaves c =
-    let m = c.with_prepared-found.ensures in
-    let searched : Searched m.prepared c.with_prepared-found.result = rw m.made.2 at m.made.1 in
+    let m = c.with_prepared.ensures in
+    let searched : Searched m.prepared.now m.left.now = m.called in
     let same = c.in_ok-known.ensures.known.table_is in
-    let best : BestOf (program_of c.args.t.now) c.with_prepared-found.result = rw (m.known_is, same) at (searched_best m.prepared_for searched) in
+    let best = rw (m.known_is, m.leaves, same) at (searched_best m.prepared_for searched) in
     best_leaves best (rw same at c.write.ensures.verdicts) (rw same at c.write.ensures.sizes)

@@ -7,5 +7,9 @@ returns g c = record {
   prepared = _;
   known_is = refl;
   prepared_for = search rules;
-  made = (_, c.take.ensures, refl);
+  shown = _;
+  shows = refl;
+  left = _;
+  leaves = refl;
+  called = c.take.ensures;
 }
