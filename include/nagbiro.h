@@ -92,7 +92,7 @@ uint32_t nagbiro_one_choice(const uint8_t *table, size_t table_length,
  * are kept. The place of 10 and 11 is the length that is needed.
  * Needs: NAGBIRO_BEST_CHOICE_STACK bytes of stack.
  */
-#define NAGBIRO_BEST_CHOICE_STACK (400 * 1024)
+#define NAGBIRO_BEST_CHOICE_STACK (352 * 1024)
 uint32_t nagbiro_best_choice(const uint8_t *table, size_t table_length,
                              uint8_t *verdicts, size_t verdicts_length,
                              uint32_t *sizes, size_t sizes_length, size_t *place);
