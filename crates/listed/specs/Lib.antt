@@ -1,3 +1,4 @@
 -- What only helps proofs.
 pub mod Within
+pub mod Lent
 pub mod Listed

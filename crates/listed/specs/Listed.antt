@@ -1,6 +1,5 @@
 -- The rules of the finite system as words in a list, as the code keeps them. Helps proofs only.
-use Rattle.std.specs.Borrow.{Bor, MutBor}
-use Rattle.std.specs.Fn.{Once}
+use Rattle.std.specs.Borrow.{Bor}
 use Rattle.std.specs.Prelude.{ℕ, zero, suc, ◌+◌, ◌-◌, ◌*◌, ◌/◌, ◌%◌, ◌<◌, ◌≤◌, ◌≡◌, Bool, true, false, cond, List, ltb, length, replicate, Option, None, Some}
 use Rattle.table.specs.Program.{program_of}
 use Rattle.table.specs.declared.Counts.{Counts}
@@ -172,17 +171,3 @@ Widest known = RulesFor everywhere known most_slots
 abbrev pub needed : Known → Option (Bor (List ℕ)) → ℕ
 needed known (Some all) = length all.now
 needed known None = slots known.program.of
-
--- A closure that is lent a state may be called at the rules of a choice, so many at most,
-abbrev pub TakesRules : {F S R : Type 0} → List ℕ → Known → ℕ → Once F (MutBor S × (Bor (List ℕ) × Unit {0})) (R × (MutBor S × Unit {0})) → F → S → Type 0
-TakesRules {F} {S} choice known most g f s = (rules : Bor (List ℕ)) → RulesFor choice known most rules.now → (state : MutBor S) → state.now ≡ s → g.pre f (state, (rules, tt))
-
--- and this is what it gave, and what it left.
-pub record GivenRules {F S R : Type 0} (choice : List ℕ) (known : Known) (most : ℕ) (g : Once F (MutBor S × (Bor (List ℕ) × Unit {0})) (R × (MutBor S × Unit {0}))) (f : F) (old new : S) (result : R) : Type 0 where
-  pub rules : Bor (List ℕ)
-  pub rules_for : RulesFor choice known most rules.now
-  pub shown : MutBor S
-  pub shows : shown.now ≡ old
-  pub left : MutBor S
-  pub leaves : left.now ≡ new
-  pub called : g.post f (shown, (rules, tt)) (result, (left, tt))

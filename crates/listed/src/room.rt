@@ -1,6 +1,7 @@
 // Room for the rules of a choice, as long as a closure looks at them.
 ghost use Rattle.std.specs.Prelude.{◌≡◌, [], IfSome};
-ghost use Rattle.listed.specs.Listed.{everywhere, needed, slots, RoomFor, RulesFor, Widest, TakesRules, GivenRules};
+ghost use Rattle.listed.specs.Listed.{everywhere, needed, slots, RoomFor, RulesFor, Widest};
+ghost use Rattle.listed.specs.Lent.{Callable, Called};
 
 use crate::force::in_force;
 use crate::list::list_rules;
@@ -47,8 +48,8 @@ fn in_words<const N: usize, S, R, F: FnOnce(&mut S, &[u64]) -> R>(
 ) -> R
     requires widest { IfSome widest (λ all. Widest known.now all.now) }
     requires room { RoomFor (needed known.now widest) N }
-    requires takes { TakesRules choice.now known.now (needed known.now widest) F.FnOnce take state.old }
-    ensures { GivenRules choice.now known.now (needed known.now widest.entry) F.FnOnce take state.old state.new result }
+    requires takes { Callable (RulesFor choice.now known.now (needed known.now widest)) F.FnOnce take state.old }
+    ensures { Called (RulesFor choice.now known.now (needed known.now widest.entry)) F.FnOnce take state.old state.new result }
 {
     let mut rules = ArrayVec::<u64, N>::new();
     fill(known, choice, widest, &mut rules);
@@ -67,8 +68,8 @@ pub fn with_rules<S, R, F: FnOnce(&mut S, &[u64]) -> R>(
     take: F,
 ) -> R
     requires widest { IfSome widest (λ all. Widest known.now all.now) }
-    requires takes { TakesRules choice.now known.now (needed known.now widest) F.FnOnce take state.old }
-    ensures { GivenRules choice.now known.now (needed known.now widest.entry) F.FnOnce take state.old state.new result }
+    requires takes { Callable (RulesFor choice.now known.now (needed known.now widest)) F.FnOnce take state.old }
+    ensures { Called (RulesFor choice.now known.now (needed known.now widest.entry)) F.FnOnce take state.old state.new result }
 {
     if room(known, widest) <= 256 {
         in_words::<256, S, R, F>(known, choice, widest, state, take)
@@ -83,8 +84,8 @@ pub fn with_widest<S, R, F: FnOnce(&mut S, &[u64]) -> R>(
     state: &mut S,
     take: F,
 ) -> R
-    requires { TakesRules everywhere known.now (slots known.now.program.of) F.FnOnce take state.old }
-    ensures { GivenRules everywhere known.now (slots known.now.program.of) F.FnOnce take state.old state.new result }
+    requires { Callable (RulesFor everywhere known.now (slots known.now.program.of)) F.FnOnce take state.old }
+    ensures { Called (RulesFor everywhere known.now (slots known.now.program.of)) F.FnOnce take state.old state.new result }
 {
     // a choice is bytes, also to the crates below
     let every = [3u8; 512];

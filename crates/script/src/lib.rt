@@ -123,7 +123,7 @@ pub struct State<'a> {
     pub call: &'a [u8],
     pub name: &'a [u8],
     pub table: Table,
-    // what tables have left, each from the first byte on
+    // what tables have left, each from the first byte on; one array for both would have a length beside it
     left: [u8; 65536],
 }
 

@@ -1,7 +1,5 @@
 -- What is found of a choice, and from what it may be found. Helps proofs only: the crates above know these records by the laws in
 -- proofs/Trying, and do not look inside.
-use Rattle.std.specs.Borrow.{Bor, MutBor}
-use Rattle.std.specs.Fn.{Once}
 use Rattle.std.specs.Prelude.{ℕ, ◌<◌, ◌≡◌, List, map, length}
 use Rattle.table.specs.Program.{Program, program_of}
 use Rattle.sync.specs.Found.{Looked}
@@ -44,20 +42,9 @@ pub record PreparedFor (p : Prepared) : Type 0 where
   pub looked : Looked p.known
   pub words_for : WordsFor p.known p.words.now
 
--- A closure that is lent a state may be called at a table that is prepared,
-abbrev pub TakesPrepared : {F S R : Type 0} → Known → Once F (MutBor S × (Bor Prepared × Unit {0})) (R × (MutBor S × Unit {0})) → F → S → Type 0
-TakesPrepared {F} {S} known g f s = (p : Bor Prepared) → p.now.known ≡ known → PreparedFor p.now → (state : MutBor S) → state.now ≡ s → g.pre f (state, (p, tt))
-
--- and this is what it gave, and what it left.
-pub record MadeOfPrepared {F S R : Type 0} (known : Known) (g : Once F (MutBor S × (Bor Prepared × Unit {0})) (R × (MutBor S × Unit {0}))) (f : F) (old new : S) (result : R) : Type 0 where
-  pub prepared : Bor Prepared
-  pub known_is : prepared.now.known ≡ known
-  pub prepared_for : PreparedFor prepared.now
-  pub shown : MutBor S
-  pub shows : shown.now ≡ old
-  pub left : MutBor S
-  pub leaves : left.now ≡ new
-  pub called : g.post f (shown, (prepared, tt)) (result, (left, tt))
+-- It is this table that is prepared.
+abbrev pub Prepares : Known → Prepared → Type 0
+Prepares known p = (p.known ≡ known) × PreparedFor p
 
 -- The sizes of a choice may be found from these numbers.
 pub record StartsFor (p : Prepared) (choice : ℕ → ℕ) (numbers : List ℕ) : Type 0 where

@@ -1,7 +1,8 @@
 // Sizes of many choices for one table: its rules are listed once, and sizes are found from those of a smaller choice.
 ghost use Rattle.sync.specs.Found.{Looked};
+ghost use Rattle.listed.specs.Lent.{Callable, Called};
 ghost use Rattle.sizes.specs.Call.{choice_of};
-ghost use Rattle.sizes.specs.Trials.{FoundFor, PreparedFor, PreparedFrom, StartsFor, TakesPrepared, MadeOfPrepared};
+ghost use Rattle.sizes.specs.Trials.{FoundFor, PreparedFor, PreparedFrom, Prepares, StartsFor};
 
 use listed::room::{with_rules, with_widest};
 use solver::solution::Solution;
@@ -22,15 +23,15 @@ pub fn with_prepared<S, R, F: FnOnce(&mut S, &Prepared<'_>) -> R>(
     state: &mut S,
     take: F,
 ) -> R
-    requires { Looked known.now × TakesPrepared known.now F.FnOnce take state.old }
-    ensures { MadeOfPrepared known.now F.FnOnce take state.old state.new result }
+    requires { Looked known.now × Callable (Prepares known.now) F.FnOnce take state.old }
+    ensures { Called (Prepares known.now) F.FnOnce take state.old state.new result }
 {
     with_widest(
         known,
         state,
         |state, words|
-            requires { PreparedFrom known.now words.now × TakesPrepared known.now F.FnOnce take state.old }
-            ensures { MadeOfPrepared known.entry.now F.FnOnce take state.old state.new result }
+            requires { PreparedFrom known.now words.now × Callable (Prepares known.now) F.FnOnce take state.old }
+            ensures { Called (Prepares known.entry.now) F.FnOnce take state.old state.new result }
         {
             take(
                 state,

@@ -3,8 +3,8 @@ use Rattle.listed.proofs.room.in_words.Goals as goal
 
 pub returns : goal.returns
 returns g c = record {
-  rules = c.deref.result;
-  rules_for = rw c.deref.ensures.0 c.fill.ensures;
+  value = c.deref.result;
+  fit = rw c.deref.ensures.0 c.fill.ensures;
   shown = _;
   shows = refl;
   left = _;

@@ -11,5 +11,5 @@ use Rattle.sizes.proofs.find.find.Goals as goal
 pub returns : goal.returns
 returns c =
     let given = c.with_rules.ensures in
-    let settled : Settles given.rules.now (number_at given.shown.now) given.left.now = given.called in
-    found_from [] c.requires given.rules_for (omega arith) (zeros_derived c.args.known.now (at c.args.choice.now) (at []) (λ (x : ℕ). refl)) c.starting-found.ensures (rw (given.shows, given.leaves) at settled)
+    let settled : Settles given.value.now (number_at given.shown.now) given.left.now = given.called in
+    found_from [] c.requires given.fit (omega arith) (zeros_derived c.args.known.now (at c.args.choice.now) (at []) (λ (x : ℕ). refl)) c.starting-found.ensures (rw (given.shows, given.leaves) at settled)

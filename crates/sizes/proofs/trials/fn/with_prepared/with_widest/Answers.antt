@@ -4,9 +4,8 @@ use Rattle.sizes.proofs.trials.fn.with_prepared.with_widest.Goals as goal
 
 pub returns : goal.returns
 returns g c = record {
-  prepared = _;
-  known_is = refl;
-  prepared_for = search rules;
+  value = _;
+  fit = (refl, search rules);
   shown = _;
   shows = refl;
   left = _;
