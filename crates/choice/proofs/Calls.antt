@@ -1,16 +1,15 @@
 -- The checks of the best-choice call, one after another.
 use Prim.Native.Nat.{ℕ, ◌<◌, ◌≤◌}
-use mathlib.Core.Path.{◌≡◌, refl, sym, ◌∙◌}
-use mathlib.Core.Bool.{cond}
+use mathlib.Core.Path.{◌≡◌, sym, ◌∙◌}
 use mathlib.Core.List.Memᴰ
-use Rattle.std.specs.Prelude.{None, Some}
+use Rattle.std.specs.Prelude.{None}
 use native.Mathlib.Omega.{arith}
 use lib.ListN.{drop}
 use borrow.Author.Tests.{lt-ltb, le-ltb, ltb-false}
 use Rattle.table.specs.Refusal.{refusal}
 use Rattle.table.specs.Checks.{checks, Accepted}
 use Rattle.table.specs.Program.{program_of}
-use Rattle.table.proofs.Refusals.{refusal_pass, refusal_here, refusal_none, not_applied, refusal_over_none}
+use Rattle.table.proofs.Refusals.{whole_here, whole_pass, whole_passes, refusal_over_none}
 use Rattle.rules.specs.Rules.{entries}
 use Rattle.sizes.specs.Call.{done, refused}
 use Rattle.sizes.proofs.Calls.{told_refused, told_done, none_refused, table_accepted, sizes_short, sizes_long, sizes_fit}
@@ -26,13 +25,13 @@ module _ (x : BestCall) (a : Accepted x.table) where
     unfolding best_result buffer_checks few_verdicts
     verdicts_refused h =
         let s : x.verdicts < (program_of x.table).nodes = omega arith in
-        told_refused best_checks x 10 nodes (past_table ∙ refusal_here x _ _ (rw (lt-ltb x.verdicts (program_of x.table).nodes s, m) refl))
+        told_refused best_checks x 10 nodes (rw m (past_table ∙ whole_here x 10 few_verdicts _ _ (lt-ltb x.verdicts (program_of x.table).nodes s)))
 
     past_verdicts : nodes ≤ x.verdicts → refusal best_checks x ≡ refusal (drop 1 buffer_checks) x
     unfolding buffer_checks few_verdicts
     past_verdicts h =
         let s : (program_of x.table).nodes ≤ x.verdicts = omega arith in
-        past_table ∙ refusal_pass x _ _ (rw (le-ltb x.verdicts (program_of x.table).nodes s) refl)
+        past_table ∙ whole_pass x 10 few_verdicts _ _ (le-ltb x.verdicts (program_of x.table).nodes s)
 
     module _ (h : nodes ≤ x.verdicts) (needed : ℕ) (e : needed ≡ entries (program_of x.table)) where
       pub buffer_refused : x.buffer < needed → refused 11 needed ≡ best_result x
@@ -50,8 +49,7 @@ ruleset in_List = (Memᴰ.head, Memᴰ.tail)
 verdicts_fit : (x : BestCall) → refusal buffer_checks x ≡ None → (program_of x.table).nodes ≤ x.verdicts
 unfolding buffer_checks few_verdicts
 verdicts_fit x e =
-    ltb-false _ _
-    (not_applied (few_verdicts x) (program_of x.table).nodes (refusal_none x buffer_checks e (record { number = 10; place = λ y. cond (few_verdicts y) (Some (program_of y.table).nodes) None }) (search in_List depth 40)))
+    ltb-false _ _ (whole_passes x 10 few_verdicts (λ y. (program_of y.table).nodes) buffer_checks e (search in_List depth 40))
 
 -- both results fit
 pub record Fits (x : BestCall) : Type 0 where
@@ -66,5 +64,5 @@ done_fits x d =
     let b = sym (past_table x t) ∙ n in
     record {
       verdicts = verdicts_fit x b;
-      sizes = sizes_fit (λ (y : BestCall). y.table) (λ (y : BestCall). y.buffer) x buffer_checks (search in_List depth 40) b;
+      sizes = sizes_fit (λ (y : BestCall). entries (program_of y.table)) (λ (y : BestCall). y.buffer) x buffer_checks (search in_List depth 40) b;
     }

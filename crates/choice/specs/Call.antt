@@ -1,9 +1,10 @@
 -- Document 01, "Refused tables": the checks of the best-choice call, and what it leaves in the lent buffers.
-use Rattle.std.specs.Prelude.{ℕ, ◌≡◌, Bool, cond, List, [], ◌∷◌, ◌++◌, map, ltb, Some, None}
-use Rattle.table.specs.Refusal.{Check, over, refusal}
+use Rattle.std.specs.Prelude.{ℕ, ◌≡◌, Bool, List, [], ◌∷◌, ◌++◌, map, ltb}
+use Rattle.table.specs.Refusal.{Check, of_whole, over, refusal}
 use Rattle.table.specs.Checks.{checks}
 use Rattle.table.specs.Program.{program_of}
 use Rattle.size.specs.Numbers.{Written}
+use Rattle.rules.specs.Rules.{entries}
 use Rattle.sizes.specs.Call.{choice_of, sizes_row, Result, done, refused, result_for, result_of, LeavesFor}
 use Rattle.std.specs.Prelude.{Result as CodeResult}
 use Rattle.table.specs.declared.refusal.Refused.{Refused}
@@ -25,8 +26,8 @@ few_verdicts x = ltb x.verdicts (program_of x.table).nodes
 -- 10 and 11. Place: "length needed".
 unfoldable pub buffer_checks : List (Check BestCall)
 buffer_checks =
-    record { number = 10; place = λ x. cond (few_verdicts x) (Some (program_of x.table).nodes) None }
-    ∷ sizes_row (λ (x : BestCall). x.table) (λ (x : BestCall). x.buffer)
+    record { number = 10; place = of_whole few_verdicts (λ x. (program_of x.table).nodes) }
+    ∷ sizes_row (λ (x : BestCall). entries (program_of x.table)) (λ (x : BestCall). x.buffer)
     ∷ []
 
 -- "The lowest number wins": those on the table itself first.

@@ -1,12 +1,12 @@
 -- The checks of a call with a choice and a sizes buffer, one after another.
 use Prim.Native.Nat.{ℕ, ◌<◌, ◌≤◌}
 use mathlib.Core.Path.{◌≡◌, refl, sym, ap, ◌∙◌, subst}
-use mathlib.Core.Bool.{Bool, true, false, true≢false, not, cond, ◌&&◌, ◌||◌}
+use mathlib.Core.Bool.{Bool, true, false, true≢false, not, ◌&&◌, ◌||◌}
 use mathlib.Core.List.{List, [], ◌∷◌, ◌++◌, map, Memᴰ}
 use Rattle.std.specs.Prelude.{Option, None, Some}
 use Rattle.table.proofs.Booleans.{some_not_none}
 use native.Mathlib.Omega.{arith}
-use lib.Dec.{eqb, leb}
+use lib.Dec.{eqb, leb, ltb}
 use lib.ListN.{length, drop}
 use borrow.Author.Tests.{eq-eqb, ne_eqb, eqb-true, lt-ltb, le-ltb, ltb-false, leb-true, not-false}
 use Rattle.table.specs.Below.{earliest}
@@ -22,11 +22,10 @@ use Rattle.table.specs.Checks.{checks, Accepted}
 use Rattle.table.specs.Program.{program_of}
 use Rattle.sync.specs.Words.{member}
 use Rattle.table.proofs.Booleans.{or_false, and_true_left, and_true_right}
-use Rattle.table.proofs.Below.{earliest_passed}
-use Rattle.table.proofs.Refusals.{refusal_pass, refusal_here, refusal_none, not_applied, refusal_over_none, refusal_over_some}
+use Rattle.table.proofs.Refusals.{refusal_pass, refusal_here, whole_here, whole_pass, whole_passes, each_passes, refusal_over_none, refusal_over_some}
 use Rattle.rules.specs.Choice.{unmerged, unguarded, ChoiceFor}
 use Rattle.rules.specs.Rules.{entries, LeastSizes}
-use Rattle.sizes.specs.Call.{Call, choice_of, wrong_length, outside, too_short, sizes_row, choice_checks, call_checks, Result, done, refused, result_for, table_result, call_result, result_of}
+use Rattle.sizes.specs.Call.{Call, choice_of, wrong_length, outside, sizes_row, choice_checks, call_checks, Result, done, refused, result_for, table_result, call_result, result_of}
 use Rattle.sizes.specs.Known.{KnownFor}
 use Rattle.sizes.specs.Trials.{known_program, FoundFor}
 use Rattle.sync.specs.declared.Known.{Known}
@@ -81,23 +80,17 @@ module _ {X : Type 0} (table : X → List ℕ) (cs : List (Check X)) (x : X) whe
       go (Some r) q = absurd (some_not_none r (sym (refusal_over_some table cs x checks q) ∙ e))
 
 -- the row of the sizes buffer: what it says where it is the last one left, and what it sees to
-module _ {X : Type 0} (table : X → List ℕ) (buffer : X → ℕ) (x : X) where
-  module _ (needed : ℕ) (e : needed ≡ entries (program_of (table x))) where
-    pub sizes_short : buffer x < needed → refusal (sizes_row table buffer ∷ []) x ≡ Some (refused_at 11 needed)
-    unfolding too_short
-    sizes_short b =
-        let s : buffer x < entries (program_of (table x)) = omega arith in
-        refusal_here x (sizes_row table buffer) [] (rw (lt-ltb (buffer x) (entries (program_of (table x))) s, e) refl)
+module _ {X : Type 0} (needed buffer : X → ℕ) (x : X) where
+  module _ (found : ℕ) (e : found ≡ needed x) where
+    pub sizes_short : buffer x < found → refusal (sizes_row needed buffer ∷ []) x ≡ Some (refused_at 11 found)
+    sizes_short b = rw e (whole_here x 11 (λ y. ltb (buffer y) (needed y)) needed [] (lt-ltb (buffer x) (needed x) (omega (arith, b, e))))
 
-    pub sizes_long : needed ≤ buffer x → refusal (sizes_row table buffer ∷ []) x ≡ None
-    unfolding too_short refusal
-    sizes_long b =
-        let s : entries (program_of (table x)) ≤ buffer x = omega arith in
-        refusal_pass x (sizes_row table buffer) [] (rw (le-ltb (buffer x) (entries (program_of (table x))) s) refl)
+    pub sizes_long : found ≤ buffer x → refusal (sizes_row needed buffer ∷ []) x ≡ None
+    unfolding refusal
+    sizes_long b = whole_pass x 11 (λ y. ltb (buffer y) (needed y)) needed [] (le-ltb (buffer x) (needed x) (omega (arith, b, e)))
 
-  pub sizes_fit : (cs : List (Check X)) → Memᴰ (sizes_row table buffer) cs → refusal cs x ≡ None → entries (program_of (table x)) ≤ buffer x
-  unfolding too_short
-  sizes_fit cs m e = ltb-false _ _ (not_applied (too_short (table x) (buffer x)) (entries (program_of (table x))) (refusal_none x cs e (sizes_row table buffer) m))
+  pub sizes_fit : (cs : List (Check X)) → Memᴰ (sizes_row needed buffer) cs → refusal cs x ≡ None → needed x ≤ buffer x
+  sizes_fit cs m e = ltb-false _ _ (whole_passes x 11 (λ y. ltb (buffer y) (needed y)) needed cs e m)
 
 -- ---- the checks of a call with a choice
 
@@ -110,13 +103,13 @@ module _ (x : Call) (a : Accepted x.table) where
   unfolding call_result choice_checks wrong_length
   length_refused nodes e h =
       told_refused call_checks x 9 nodes
-      (past_table ∙ refusal_here x _ _ (rw (ne_eqb (length x.choice) (program_of x.table).nodes (λ q. h (q ∙ sym e)), e) refl))
+      (rw e (past_table ∙ whole_here x 9 wrong_length _ _ (rw (ne_eqb (length x.choice) (program_of x.table).nodes (λ q. h (q ∙ sym e))) refl)))
 
   past_length : length x.choice ≡ (program_of x.table).nodes → refusal call_checks x ≡ refusal (drop 1 choice_checks) x
   unfolding choice_checks wrong_length
-  past_length h = past_table ∙ refusal_pass x _ _ (rw (eq-eqb (length x.choice) (program_of x.table).nodes h) refl)
+  past_length h = past_table ∙ whole_pass x 9 wrong_length _ _ (rw (eq-eqb (length x.choice) (program_of x.table).nodes h) refl)
 
-  module _ (h : length x.choice ≡ (program_of x.table).nodes) {found : Option ℕ} (f : found ≡ earliest (outside x.table x.choice) (program_of x.table).nodes) where
+  module _ (h : length x.choice ≡ (program_of x.table).nodes) {found : Option ℕ} (f : found ≡ earliest (λ n. outside x.table n (choice_of x.choice n)) (program_of x.table).nodes) where
     pub byte_refused : (n : ℕ) → found ≡ Some n → refused 9 n ≡ call_result x
     unfolding call_result choice_checks
     byte_refused n e = told_refused call_checks x 9 n (past_length h ∙ refusal_here x _ _ (sym f ∙ e))
@@ -149,37 +142,34 @@ module _ (x : Call) (e : refusal choice_checks x ≡ None) where
   length_right : length x.choice ≡ (program_of x.table).nodes
   unfolding choice_checks wrong_length
   length_right =
-      eqb-true _ _
-      (not-false _ (not_applied (wrong_length x) (program_of x.table).nodes (refusal_none x choice_checks e (record { number = 9; place = λ y. cond (wrong_length y) (Some (program_of y.table).nodes) None }) (search in_List depth 40))))
+      eqb-true _ _ (not-false _ (whole_passes x 9 wrong_length (λ y. (program_of y.table).nodes) choice_checks e (search in_List depth 40)))
 
-  none_outside : (n : ℕ) → n < (program_of x.table).nodes → outside x.table x.choice n ≡ false
+  none_outside : (n : ℕ) → n < (program_of x.table).nodes → outside x.table n (choice_of x.choice n) ≡ false
   unfolding choice_checks
-  none_outside =
-      earliest_passed (outside x.table x.choice) (program_of x.table).nodes
-      (refusal_none x choice_checks e (record { number = 9; place = λ y. earliest (outside y.table y.choice) (program_of y.table).nodes }) (search in_List depth 40))
+  none_outside = each_passes x 9 (λ y n. outside y.table n (choice_of y.choice n)) (λ y. (program_of y.table).nodes) choice_checks e (search in_List depth 40)
 
 -- a byte that is not outside its list
-byte_listed : (t choice : List ℕ) (n : ℕ) → outside t choice n ≡ false → ((eqb ((program_of t).sort n) spawn && leb unmerged (choice_of choice n) && leb (choice_of choice n) unguarded) || (not (eqb ((program_of t).sort n) spawn) && eqb (choice_of choice n) 0)) ≡ true
+byte_listed : (t : List ℕ) (n byte : ℕ) → outside t n byte ≡ false → ((eqb ((program_of t).sort n) spawn && leb unmerged byte && leb byte unguarded) || (not (eqb ((program_of t).sort n) spawn) && eqb byte 0)) ≡ true
 unfolding outside
-byte_listed t choice n e = not-false _ e
+byte_listed t n byte e = not-false _ e
 
-module _ (t choice : List ℕ) (n : ℕ) (e : outside t choice n ≡ false) where
-  pub spawn_byte : (program_of t).sort n ≡ spawn → (unmerged ≤ choice_of choice n) × (choice_of choice n ≤ unguarded)
+module _ (t : List ℕ) (n byte : ℕ) (e : outside t n byte ≡ false) where
+  pub spawn_byte : (program_of t).sort n ≡ spawn → (unmerged ≤ byte) × (byte ≤ unguarded)
   spawn_byte s =
       let a = eqb ((program_of t).sort n) spawn in
-      let low = leb unmerged (choice_of choice n) in
-      let high = leb (choice_of choice n) unguarded in
-      let h : (low && high) ≡ true = spawn_side a low high (eqb (choice_of choice n) 0) (eq-eqb _ _ s) (byte_listed t choice n e) in
+      let low = leb unmerged byte in
+      let high = leb byte unguarded in
+      let h : (low && high) ≡ true = spawn_side a low high (eqb byte 0) (eq-eqb _ _ s) (byte_listed t n byte e) in
       (leb-true _ _ (and_true_left low high h), leb-true _ _ (and_true_right low high h))
     where
       spawn_side : (a b c d : Bool) → a ≡ true → ((a && b && c) || (not a && d)) ≡ true → (b && c) ≡ true
       spawn_side true b c d q h = sym (or_false (b && c)) ∙ h
       spawn_side false b c d q h = absurd (true≢false (sym q))
 
-  pub other_byte : ((program_of t).sort n ≡ spawn → ⊥) → choice_of choice n ≡ 0
+  pub other_byte : ((program_of t).sort n ≡ spawn → ⊥) → byte ≡ 0
   other_byte s =
       let a = eqb ((program_of t).sort n) spawn in
-      eqb-true _ _ (other_side a (leb unmerged (choice_of choice n)) (leb (choice_of choice n) unguarded) (eqb (choice_of choice n) 0) (ne_eqb _ _ s) (byte_listed t choice n e))
+      eqb-true _ _ (other_side a (leb unmerged byte) (leb byte unguarded) (eqb byte 0) (ne_eqb _ _ s) (byte_listed t n byte e))
     where
       other_side : (a b c d : Bool) → a ≡ false → ((a && b && c) || (not a && d)) ≡ true → d ≡ true
       other_side false b c d q h = h
@@ -195,10 +185,10 @@ done_valid x e =
       accepted_is = a;
       one_byte = length_right x c;
       choice_for = record {
-        others = λ m h s. other_byte x.table x.choice m (none_outside x c m h) s;
-        spawns = λ m h s. spawn_byte x.table x.choice m (none_outside x c m h) s;
+        others = λ m h s. other_byte x.table m (choice_of x.choice m) (none_outside x c m h) s;
+        spawns = λ m h s. spawn_byte x.table m (choice_of x.choice m) (none_outside x c m h) s;
       };
-      fits = sizes_fit (λ (y : Call). y.table) (λ (y : Call). y.buffer) x choice_checks (search in_List depth 40) c;
+      fits = sizes_fit (λ (y : Call). entries (program_of y.table)) (λ (y : Call). y.buffer) x choice_checks (search in_List depth 40) c;
     }
 
 -- what is found and written is what the call leaves

@@ -1,7 +1,6 @@
 -- Document 01, "Refused tables": the checks of a call that is handed a choice and a sizes buffer, and what it answers.
-use Rattle.std.specs.Prelude.{ℕ, ◌≡◌, Bool, not, cond, ◌&&◌, ◌||◌, List, [], ◌∷◌, ◌++◌, map, eqb, leb, ltb, length, get_or, Option, None, Some}
-use Rattle.table.specs.Below.{earliest}
-use Rattle.table.specs.Refusal.{Check, Refusal, over, refusal}
+use Rattle.std.specs.Prelude.{ℕ, ◌≡◌, Bool, not, ◌&&◌, ◌||◌, List, [], ◌∷◌, ◌++◌, map, eqb, leb, ltb, length, get_or, Option, None, Some}
+use Rattle.table.specs.Refusal.{Check, Refusal, of_whole, of_each, over, refusal}
 use Rattle.table.specs.Record.{spawn}
 use Rattle.table.specs.Checks.{checks}
 use Rattle.table.specs.Program.{program_of}
@@ -31,27 +30,23 @@ choice_of bytes n = get_or bytes n 0
 unfoldable pub wrong_length : Call → Bool
 wrong_length x = not (eqb (length x.choice) (program_of x.table).nodes)
 
--- 9: "or a byte outside its list": "0 if it is no spawn; else 1 unmerged, 2 merged guarded, 3 merged unguarded"
-unfoldable pub outside : List ℕ → List ℕ → ℕ → Bool
-outside t choice n =
+-- 9: "or a byte outside its list", that of node n: "0 if it is no spawn; else 1 unmerged, 2 merged guarded, 3 merged unguarded"
+unfoldable pub outside : List ℕ → ℕ → ℕ → Bool
+outside t n byte =
     not
-    ((eqb ((program_of t).sort n) spawn && leb unmerged (choice_of choice n) && leb (choice_of choice n) unguarded)
-    || (not (eqb ((program_of t).sort n) spawn) && eqb (choice_of choice n) 0))
+    ((eqb ((program_of t).sort n) spawn && leb unmerged byte && leb byte unguarded)
+    || (not (eqb ((program_of t).sort n) spawn) && eqb byte 0))
 
--- 11: "sizes buffer too short"
-unfoldable pub too_short : List ℕ → ℕ → Bool
-too_short t buffer = ltb buffer (entries (program_of t))
-
--- Its row, in any call that is handed a table and a sizes buffer. Place: "length needed".
-abbrev pub sizes_row : {X : Type 0} → (X → List ℕ) → (X → ℕ) → Check X
-sizes_row table buffer = record { number = 11; place = λ x. cond (too_short (table x) (buffer x)) (Some (entries (program_of (table x)))) None }
+-- 11: "sizes buffer too short", in any call that writes sizes. Place: "length needed".
+abbrev pub sizes_row : {X : Type 0} → (needed buffer : X → ℕ) → Check X
+sizes_row needed buffer = record { number = 11; place = of_whole (λ x. ltb (buffer x) (needed x)) needed }
 
 -- "in 9 a wrong length goes before a wrong byte", "the earliest [..] node"
 unfoldable pub choice_checks : List (Check Call)
 choice_checks =
-    record { number = 9; place = λ x. cond (wrong_length x) (Some (program_of x.table).nodes) None }
-    ∷ record { number = 9; place = λ x. earliest (outside x.table x.choice) (program_of x.table).nodes }
-    ∷ sizes_row (λ (x : Call). x.table) (λ (x : Call). x.buffer)
+    record { number = 9; place = of_whole wrong_length (λ x. (program_of x.table).nodes) }
+    ∷ record { number = 9; place = of_each (λ x n. outside x.table n (choice_of x.choice n)) (λ x. (program_of x.table).nodes) }
+    ∷ sizes_row (λ (x : Call). entries (program_of x.table)) (λ (x : Call). x.buffer)
     ∷ []
 
 -- "The lowest number wins": those on the table itself first.

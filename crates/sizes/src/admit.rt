@@ -1,7 +1,7 @@
 // What a call that is handed a choice and a sizes buffer is refused for.
 ghost use Rattle.std.specs.Prelude.{◌≡◌, ◌<◌, IfOk};
 ghost use Rattle.table.specs.Below.{earliest};
-ghost use Rattle.sizes.specs.Call.{call, outside, call_result, result_of, table_result};
+ghost use Rattle.sizes.specs.Call.{call, choice_of, outside, call_result, result_of, table_result};
 ghost use Rattle.sizes.specs.Known.{KnownFor};
 
 use program::Program;
@@ -9,22 +9,21 @@ use rules::targets::chosen;
 use sync::{Known, synchronising};
 use table::refusal::{Cause, Refused};
 
-// Whether the byte of node n is outside its list: 1 to 3 of a spawn, and 0 of any other node. A choice is handed in as bytes, of any value.
+// Whether a byte is outside the list of node n: 1 to 3 of a spawn, and 0 of any other node. A choice is handed in as bytes, of any value.
 #[tactic(auto, unfolding(crate::specs::Call::outside))]
-fn is_outside(program: &Program<'_>, choice: &[u8], n: usize) -> bool
+pub fn is_outside(program: &Program<'_>, n: usize, byte: u8) -> bool
     requires { n < program.now.of.nodes }
-    ensures { result ≡ outside program.now.table.now choice.now n }
+    ensures { result ≡ outside program.now.table.now n byte }
 {
     let spawn = program.is_spawn(n);
-    let byte = chosen(choice, n);
     !((spawn & (1 <= byte) & (byte <= 3)) | (!spawn & (byte == 0)))
 }
 
 // The first node whose byte is.
 fn first_outside(program: &Program<'_>, choice: &[u8]) -> Option<usize>
-    ensures { result ≡ earliest (outside program.now.table.now choice.now) program.now.of.nodes }
+    ensures { result ≡ earliest (λ n. outside program.now.table.now n (choice_of choice.now n)) program.now.of.nodes }
 {
-    (0..program.of.nodes).find(|n| is_outside(program, choice, *n))
+    (0..program.of.nodes).find(|n| is_outside(program, *n, chosen(choice, *n)))
 }
 
 // Judges the choice and the length of the sizes buffer.

@@ -6,11 +6,11 @@ use mathlib.Core.List.{List, [], ◌∷◌, ◌++◌, map, Memᴰ}
 use Rattle.std.specs.Prelude.{Option, None, Some}
 use Rattle.table.proofs.Booleans.{some_not_none}
 use mathlib.Core.Logic.{⊎_elim}
-use Prim.Native.Nat.{ℕ}
-use Rattle.table.specs.Refusal.{Check, Refusal, over, refused_at, refusal}
+use Prim.Native.Nat.{ℕ, ◌<◌}
+use Rattle.table.specs.Refusal.{Check, Refusal, of_whole, of_each, over, refused_at, refusal}
+use Rattle.table.proofs.Below.{earliest_passed}
 
--- a row with one place, and its condition
-pub not_applied : (b : Bool) (p : ℕ) → cond b (Some p) None ≡ None → b ≡ false
+not_applied : (b : Bool) (p : ℕ) → cond b (Some p) None ≡ None → b ≡ false
 not_applied true p e = absurd (some_not_none p e)
 not_applied false p e = refl
 
@@ -35,6 +35,21 @@ module _ {X : Type 0} (x : X) where
           (λ (n : Memᴰ c ds). later (sym (refusal_pass d ds h) ∙ e) n)
           (Memᴰ.cases_cons m)
       go (Some p) h later = absurd (some_not_none (refused_at d.number p) (sym (refusal_here d ds h) ∙ e))
+
+-- a row about the whole: it refuses where its condition holds, is passed over where it does not, and what nothing refuses it does not hold of
+module _ {X : Type 0} (x : X) (n : ℕ) (condition : X → Bool) (place : X → ℕ) (cs : List (Check X)) where
+  pub whole_here : condition x ≡ true → refusal (record { number = n; place = of_whole condition place } ∷ cs) x ≡ Some (refused_at n (place x))
+  whole_here e = refusal_here x (record { number = n; place = of_whole condition place }) cs (rw e refl)
+
+  pub whole_pass : condition x ≡ false → refusal (record { number = n; place = of_whole condition place } ∷ cs) x ≡ refusal cs x
+  whole_pass e = refusal_pass x (record { number = n; place = of_whole condition place }) cs (rw e refl)
+
+  pub whole_passes : refusal cs x ≡ None → Memᴰ (record { number = n; place = of_whole condition place }) cs → condition x ≡ false
+  whole_passes e m = not_applied (condition x) (place x) (refusal_none x cs e _ m)
+
+-- a row about each of its records, nodes or bytes
+pub each_passes : {X : Type 0} (x : X) (n : ℕ) (condition : X → ℕ → Bool) (count : X → ℕ) (cs : List (Check X)) → refusal cs x ≡ None → Memᴰ (record { number = n; place = of_each condition count }) cs → (r : ℕ) → r < count x → condition x r ≡ false
+each_passes x n condition count cs e m = earliest_passed (condition x) (count x) (refusal_none x cs e _ m)
 
 -- rows about a part come before others: what they say of the part decides, and if they say nothing, the others do
 module _ {X Y : Type 0} (part : X → Y) (ds : List (Check X)) (x : X) where

@@ -8,20 +8,21 @@ use native.Mathlib.Omega.{arith}
 use lib.Dec.{eqb, ltb}
 use borrow.Author.Tests.{eqb-true, ltb-true, ltb-false, lt-ltb, le-ltb}
 use Rattle.table.specs.Below.{count}
+use Rattle.table.specs.Refusal.{of_whole}
 use Rattle.table.specs.Record.{records, kind_of, functions, nodes, edges}
-use Rattle.table.specs.Checks.{checks, Accepted, of_record, of_table, broken, unlisted, out_of_order, too_many, no_entry, absent, foreign, not_plain}
-use Rattle.table.proofs.Below.{earliest_passed, count_same, count_sum, count_all, count_below}
-use Rattle.table.proofs.Refusals.{refusal_none, not_applied}
+use Rattle.table.specs.Checks.{checks, Accepted, of_record, broken, unlisted, out_of_order, too_many, no_entry, absent, foreign, not_plain}
+use Rattle.table.proofs.Below.{count_same, count_sum, count_all, count_below}
+use Rattle.table.proofs.Refusals.{each_passes, whole_passes}
 
 ruleset in_List = (Memᴰ.head, Memᴰ.tail)
 
 module _ (t : List ℕ) (ok : Accepted t) where
   -- a row of the list does not apply; where it stands in the list does not matter
   record_passed : (n : ℕ) (test : List ℕ → ℕ → Bool) → Memᴰ (record { number = n; place = of_record test }) checks → (r : ℕ) → r < records t → test t r ≡ false
-  record_passed n test m = earliest_passed (test t) (records t) (refusal_none t checks ok _ m)
+  record_passed n test m = each_passes t n test records checks ok m
 
-  table_passed : (n : ℕ) (test : List ℕ → Bool) (place : List ℕ → ℕ) → Memᴰ (record { number = n; place = of_table test place }) checks → test t ≡ false
-  table_passed n test place m = not_applied (test t) (place t) (refusal_none t checks ok _ m)
+  table_passed : (n : ℕ) (test : List ℕ → Bool) (place : List ℕ → ℕ) → Memᴰ (record { number = n; place = of_whole test place }) checks → test t ≡ false
+  table_passed n test place m = whole_passes t n test place checks ok m
 
   pub not_broken : broken t ≡ false
   unfolding checks

@@ -1,8 +1,8 @@
 -- Document 01, "Refused tables": the checks on the table itself. Each condition is a definition of its own, and `checks` lists the rows.
 -- A condition on a record makes sense for every record of every table, whatever the rows before it say.
-use Rattle.std.specs.Prelude.{ℕ, zero, suc, ◌%◌, ◌≡◌, List, [], ◌∷◌, Bool, false, not, cond, ◌&&◌, ◌||◌, eqb, leb, ltb, length, Option, None, Some}
-use Rattle.table.specs.Below.{earliest, any, count}
-use Rattle.table.specs.Refusal.{Check, refusal}
+use Rattle.std.specs.Prelude.{ℕ, zero, suc, ◌%◌, ◌≡◌, List, [], ◌∷◌, Bool, false, not, ◌&&◌, ◌||◌, eqb, leb, ltb, length, Option, None}
+use Rattle.table.specs.Below.{any, count}
+use Rattle.table.specs.Refusal.{Check, of_whole, of_each, refusal}
 use Rattle.table.specs.Record.{records, kind_of, sort_of, field_a, field_b, field_c, is_function, is_node, is_edge, functions, nodes, node_owner, node_sort, is_entry, plain, sync, has_target}
 
 -- 1: "length no multiple of 8"
@@ -52,20 +52,17 @@ foreign t r =
 unfoldable pub not_plain : List ℕ → ℕ → Bool
 not_plain t r = is_function t r && not (eqb (node_sort t (field_a t r)) plain && eqb (node_sort t (field_b t r)) plain)
 
--- A row about the table as a whole has one place; of a row about a record the place is "the record", the earliest one.
-abbrev pub of_table : (List ℕ → Bool) → (List ℕ → ℕ) → List ℕ → Option ℕ
-of_table condition place t = cond (condition t) (Some (place t)) None
-
+-- a row about a record: "the record", the earliest one
 abbrev pub of_record : (List ℕ → ℕ → Bool) → List ℕ → Option ℕ
-of_record condition t = earliest (condition t) (records t)
+of_record condition = of_each condition records
 
 unfoldable pub checks : List (Check (List ℕ))
 checks =
-    record { number = 1; place = of_table broken records }
+    record { number = 1; place = of_whole broken records }
     ∷ record { number = 2; place = of_record unlisted }
     ∷ record { number = 3; place = of_record out_of_order }
     ∷ record { number = 4; place = of_record too_many }
-    ∷ record { number = 5; place = of_table no_entry (λ t. 0) }
+    ∷ record { number = 5; place = of_whole no_entry (λ t. 0) }
     ∷ record { number = 6; place = of_record absent }
     ∷ record { number = 7; place = of_record foreign }
     ∷ record { number = 8; place = of_record not_plain }

@@ -11,9 +11,9 @@ use Rattle.std.specs.Bool.{then_some}
 use Rattle.std.proofs.lemmas.Result.{err_from_is_err_and}
 use Rattle.table.specs.Below.{earliest}
 use Rattle.table.specs.Scan.{pass_of}
-use Rattle.table.specs.Refusal.{Check, refusal}
+use Rattle.table.specs.Refusal.{Check, of_whole, refusal}
 use Rattle.table.specs.Record.{records, is_entry}
-use Rattle.table.specs.Checks.{checks, of_table, broken, unlisted, out_of_order, no_entry, absent, foreign, not_plain}
+use Rattle.table.specs.Checks.{checks, broken, unlisted, out_of_order, no_entry, absent, foreign, not_plain}
 use Rattle.table.specs.Answer.{outcome, outcome_for, accepted, refused, number_of, CountsOf}
 use Rattle.table.specs.declared.Counts.{Counts}
 use Rattle.table.specs.declared.refusal.Cause.{Cause}
@@ -62,11 +62,11 @@ placed : (b : Bool) (p : ℕ) → then_some b p ≡ cond b (Some p) None
 placed true p = refl
 placed false p = refl
 
-length_told : (t : List ℕ) {found : Option ℕ} → found ≡ then_some (not (eqb (length t % 8) 0)) (length t / 8) → found ≡ of_table broken records t
+length_told : (t : List ℕ) {found : Option ℕ} → found ≡ then_some (not (eqb (length t % 8) 0)) (length t / 8) → found ≡ of_whole broken records t
 unfolding broken
 length_told t e = e ∙ placed _ _
 
-entry_told : (t : List ℕ) {of : Counts} {entry found : Option ℕ} (none : Bool) → CountsOf t of → entry ≡ earliest (is_entry t) (records t) → is_some entry ≡ not none → found ≡ then_some (eqb of.functions 0 || none) 0 → found ≡ of_table no_entry (λ _. 0) t
+entry_told : (t : List ℕ) {of : Counts} {entry found : Option ℕ} (none : Bool) → CountsOf t of → entry ≡ earliest (is_entry t) (records t) → is_some entry ≡ not none → found ≡ then_some (eqb of.functions 0 || none) 0 → found ≡ of_whole no_entry (λ _. 0) t
 unfolding no_entry
 entry_told t {of} {entry} none counts e n f = rw (← counts.functions_are, any_told (is_entry t) (records t), ← e, n, not_not none) (f ∙ placed _ _)
 
