@@ -1,2 +1,4 @@
 -- For a caller.
 pub mod Laws
+-- How the promises come about.
+mod Telling
