@@ -10,7 +10,6 @@ use sync::{Known, synchronising};
 use table::refusal::{Cause, Refused};
 
 // Whether a byte is outside the list of node n: 1 to 3 of a spawn, and 0 of any other node. A choice is handed in as bytes, of any value.
-#[tactic(auto, unfolding(crate::specs::Call::outside))]
 pub fn is_outside(program: &Program<'_>, n: usize, byte: u8) -> bool
     requires { n < program.now.of.nodes }
     ensures { result ≡ outside program.now.table.now n byte }
