@@ -41,12 +41,12 @@ fn put_best(text: &mut Text, t: &[u8]) -> Result<(), Refused>
 }
 
 // What the program prints for a table of any length.
-#[tactic(auto, using(crate::specs::Listing::too_long, crate::specs::Listing::refused))]
 pub fn listing(t: &[u8]) -> Text
     ensures listing_of { ListingOf t.now result.0.bytes }
 {
     let mut text = Text::new();
-    if LONGEST < t.len() {
+    let is_long = LONGEST < t.len();
+    if is_long {
         text.push("too long\n");
     } else if let Err(refused) = put_best(&mut text, t) {
         text.push_refusal(refused);
