@@ -48,6 +48,10 @@ tells_all test k false (n, b, fails) = record {
 tells_also : {P Q : Type 0} {r : Bool} → (P → Q) → (Q → P) → Tells r P → Tells r Q
 tells_also to from t = record { yes_if = λ e. to (t.yes_if e); only_if = λ q. t.only_if (from q) }
 
+-- two tests, the second where the first holds
+pub tells_both : {P Q : Type 0} {p q : Bool} → Tells p P → p ≡ true → Tells q Q → Tells q (P × Q)
+tells_both t e u = record { yes_if = λ h. (t.yes_if e, u.yes_if h); only_if = λ b. u.only_if b.1 }
+
 -- node n is no spawn, or Post of its target is 0
 abbrev pub gives_zero : Program → List Size → ℕ → Bool
 gives_zero g sizes n = not (eqb (g.sort n) spawn) || eqb (value_of (get_or sizes (4 * g.target n + 1) (Bytes 0))) 0
