@@ -1,10 +1,12 @@
-// Answers as text on a writer, in document 01's words. What is printed is tested; of what is left of a buffer and of single sizes it is proved.
+// Answers as text, in document 01's words. What is printed is tested; of what is left of a buffer and of single sizes it is proved.
 #![tactic(auto)]
 
 ghost use Rattle.std.specs.Prelude.{◌≡◌, ◌==◌, ◌++◌, if◌then◌else◌, Some, codes, decimal, count_by};
 
+use arrayvec::ArrayVec;
+use std::fmt;
+use std::fmt::Display;
 use std::io::Write;
-use std::{fmt, io};
 use table::refusal::Refused;
 use table::{Counts, check};
 
@@ -19,14 +21,6 @@ pub fn kept<T: PartialEq>(buffer: &[T], old: &T) -> usize
     ensures { result ≡ count_by (λ x. T.eq x old.now) buffer.now }
 {
     buffer.iter().filter(|x| *x == old).count()
-}
-
-// `accepted`, then the number of functions, nodes and edges; or the refusal.
-pub fn checked<W: Write>(out: &mut W, answer: Result<Counts, Refused>) -> io::Result<()> {
-    match answer {
-        Ok(of) => writeln!(out, "accepted {} {} {}", of.functions, of.nodes, of.edges),
-        Err(refused) => writeln!(out, "{refused}"),
-    }
 }
 
 // A size as it is written to a buffer: its bytes, or 65,536 where it is unbounded. A number of a buffer may be no size, as its old content is none, so it
@@ -45,43 +39,105 @@ impl fmt::Display for Size {
     }
 }
 
-// A row of four sizes behind its letter and number.
-fn row<W: Write>(out: &mut W, letter: char, number: usize, sizes: &[u32]) -> io::Result<()> {
-    write!(out, "  {letter} {number}")?;
-    for size in sizes {
-        write!(out, " {}", Size(*size))?;
-    }
-    writeln!(out)
-}
+// Text in fixed memory, for a program to write at once, so that nothing fails before. What goes past it is left out: there is room for the longest name
+// in a script of 131,072 bytes, and behind it for the longest answer, 576 rows of at most 48 bytes.
+#[derive(Drop)]
+pub struct Page(ArrayVec<u8, 163840>);
 
-// Rows for the fours of sizes behind the first so many, and for so many of them, as far as there are any: both numbers are the table's, and the buffer
-// may be shorter.
-fn rows<W: Write>(
-    out: &mut W,
-    letter: char,
-    sizes: &[u32],
-    before: usize,
-    count: usize,
-) -> io::Result<()> {
-    let fours = sizes.chunks_exact(4).skip(before).take(count);
-    for (number, four) in fours.enumerate() {
-        row(out, letter, number, four)?;
+impl Page {
+    pub fn new() -> Page {
+        Page(ArrayVec::new())
     }
-    Ok(())
-}
 
-// A row `  F n Total Post Pre Through` for each function of the table, as far as the sizes buffer goes.
-pub fn functions<W: Write>(out: &mut W, t: &[u8], sizes: &[u32]) -> io::Result<()> {
-    match check(t) {
-        Ok(of) => rows(out, 'F', sizes, 0, of.functions),
-        Err(_) => Ok(()),
+    pub fn as_slice(&self) -> &[u8] {
+        self.0.as_slice()
     }
-}
 
-// A row `  N n Total Post Pre Through` for each node of the table, as far as the sizes buffer goes behind the functions.
-pub fn nodes<W: Write>(out: &mut W, t: &[u8], sizes: &[u32]) -> io::Result<()> {
-    match check(t) {
-        Ok(of) => rows(out, 'N', sizes, of.functions, of.nodes),
-        Err(_) => Ok(()),
+    pub fn clear(&mut self) {
+        self.0.clear();
+    }
+
+    pub fn bytes(&mut self, bytes: &[u8]) {
+        let _ = self.0.write_all(bytes);
+    }
+
+    pub fn text(&mut self, text: &str) {
+        self.bytes(text.as_bytes());
+    }
+
+    // Ends a line.
+    pub fn end(&mut self) {
+        self.text("\n");
+    }
+
+    pub fn show<D: Display + Drop>(&mut self, value: D) {
+        let _ = write!(self.0, "{value}");
+    }
+
+    // A number behind a space.
+    pub fn number(&mut self, n: usize) {
+        self.text(" ");
+        self.show(n);
+    }
+
+    // A refusal, in a line of its own.
+    pub fn refused(&mut self, refused: Refused) {
+        self.show(refused);
+        self.end();
+    }
+
+    // `accepted`, then the number of functions, nodes and edges.
+    pub fn accepted(&mut self, of: Counts) {
+        self.text("accepted");
+        self.number(of.functions);
+        self.number(of.nodes);
+        self.number(of.edges);
+        self.end();
+    }
+
+    // What `check` answers.
+    pub fn checked(&mut self, answer: Result<Counts, Refused>) {
+        match answer {
+            Ok(of) => self.accepted(of),
+            Err(refused) => self.refused(refused),
+        }
+    }
+
+    // A row of four sizes behind its head and number.
+    fn row(&mut self, head: &str, number: usize, sizes: &[u32]) {
+        self.text(head);
+        self.number(number);
+        for size in sizes {
+            self.text(" ");
+            self.show(Size(*size));
+        }
+        self.end();
+    }
+
+    // Rows for so many fours of sizes, as far as there are any.
+    fn rows(&mut self, head: &str, sizes: &[u32], count: usize) {
+        let mut rest = sizes;
+        for number in 0..count {
+            let Some((four, behind)) = rest.split_first_chunk::<4>() else {
+                return;
+            };
+            self.row(head, number, four);
+            rest = behind;
+        }
+    }
+
+    // A row `  F n Total Post Pre Through` for each function of the table, as far as the sizes buffer goes.
+    pub fn functions(&mut self, t: &[u8], sizes: &[u32]) {
+        if let Ok(of) = check(t) {
+            self.rows("  F", sizes, of.functions);
+        }
+    }
+
+    // A row `  N n Total Post Pre Through` for each node of the table, as far as the sizes buffer goes behind the functions.
+    pub fn nodes(&mut self, t: &[u8], sizes: &[u32]) {
+        if let Ok(of) = check(t) {
+            let behind = of.functions.saturating_mul(4);
+            self.rows("  N", sizes.get(behind..).unwrap_or(&[]), of.nodes);
+        }
     }
 }

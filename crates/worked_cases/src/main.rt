@@ -1,8 +1,76 @@
-// Runs tables and choices whose outcomes were worked out from document 01: `calls` makes the calls of the script.
+// Makes the calls that a script asks for, as `script` reads it, and prints what they answer: on tables and choices whose
+// outcomes were worked out from document 01, and for the work that calls take.
 #![tactic(auto)]
 
-use calls::Failed;
+mod cases;
+mod counts;
+mod names;
 
+use cases::{show_best, show_safety, show_sizes, show_sync};
+use counts::{show_passes, show_trials};
+use names::Call;
+use report::{OLD_SIZE, OLD_VERDICT, Page};
+use script::{Failed, Line, Run, State, read_full};
+use std::io;
+use std::io::Write;
+
+// What a call answers to a run on this table. The buffers have room for the largest table and a tail, with old content.
+fn show_call(page: &mut Page, call: Call, t: &[u8], run: &Run<'_>) {
+    let choice = run.choice();
+    let choice = choice.as_slice();
+    let mut sizes = [OLD_SIZE; 2400];
+    let sizes = &mut sizes[..usize::from(run.buffer).min(2400)];
+    match call {
+        Call::Table => page.checked(table::check(t)),
+        Call::Sync => show_sync(page, t),
+        Call::Sizes => show_sizes(page, t, choice, sizes),
+        Call::Safety => show_safety(page, t, choice, sizes),
+        Call::Best => {
+            let mut verdicts = [OLD_VERDICT; 600];
+            show_best(page, t, &mut verdicts[..choice.len().min(600)], sizes);
+        }
+        Call::Passes => show_passes(page, t, choice),
+        Call::Trials => show_trials(page, t),
+    }
+}
+
+// What a line of a script makes the program print: `! CALL` as a heading, and for a run `NAME: ` and what the call answers to it.
+fn show_line<'a>(page: &mut Page, state: &mut State<'a>, text: &'a [u8]) {
+    let line = Line::read(text);
+    state.take(&line);
+    match &line {
+        Line::Call(call) => {
+            page.text("! ");
+            page.bytes(call);
+            page.end();
+        }
+        Line::Run(run) => {
+            page.bytes(state.name);
+            page.text(": ");
+            match Call::named(state.call) {
+                Some(call) => show_call(page, call, state.table.as_slice(), run),
+                None => page.text("no such call\n"),
+            }
+        }
+        _ => {}
+    }
+}
+
+// What each line makes it print is written before the next line is read.
+fn run_script<W: Write>(out: &mut W, text: &[u8]) -> io::Result<()> {
+    let mut state = State::new();
+    let mut page = Page::new();
+    for line in text.split(|byte| *byte == b'\n') {
+        page.clear();
+        show_line(&mut page, &mut state, line);
+        out.write_all(page.as_slice())?;
+    }
+    Ok(())
+}
+
+// Reads a script of at most 131,072 bytes from standard input.
 fn main(rt: HostRuntime) -> Result<(), Failed> {
-    calls::run_input(&rt)
+    let mut buffer = [0u8; 131072];
+    let text = read_full(&mut rt.stdin(), &mut buffer).map_err(Failed::Reading)?;
+    run_script(&mut rt.stdout(), text).map_err(Failed::Writing)
 }
