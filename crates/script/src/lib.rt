@@ -1,4 +1,4 @@
-// Task tables written as text, for the programs that run worked-out cases and that count.
+// Task tables written as text, for the program that runs worked-out cases and that counts.
 //
 // `! CALL` says which call the runs that follow are of, and `= NAME` begins a table. A line of numbers is a run of its
 // records: kind, sort, a, b, c, and then, where they are given, how many there are (1 if not) and whether a and b go up
@@ -35,7 +35,7 @@ use records::Records;
 pub type Table = ArrayVec<u8, 65536>;
 
 // What a line of a script says.
-#[derive(Clone, Copy, Debug)]
+#[derive(Clone, Copy)]
 pub enum Line<'a> {
     Comment,
     // The runs that follow are of this call.
@@ -49,7 +49,7 @@ pub enum Line<'a> {
 }
 
 // A run on the table: with a choice of so many bytes, which these numbers say, and a sizes buffer of so many numbers.
-#[derive(Clone, Copy, Debug)]
+#[derive(Clone, Copy)]
 pub struct Run<'a> {
     pub length: u16,
     pub buffer: u16,
@@ -118,7 +118,7 @@ fn clear(table: &mut Table, left: &mut [u8; 65536])
 }
 
 // What the lines up to some place of a script have said: the call of the runs, and the table with its name.
-#[derive(Debug, Drop)]
+#[derive(Drop)]
 pub struct State<'a> {
     pub call: &'a [u8],
     pub name: &'a [u8],
@@ -153,67 +153,5 @@ impl<'a> State<'a> {
             Line::Bytes(count) => put_left(&mut self.table, &self.left, *count),
             Line::Records(records) => records.put(&mut self.table),
         }
-    }
-}
-
-#[cfg(test)]
-mod tests {
-    use super::*;
-    use std::test::Fail;
-
-    #[test]
-    fn lines_make_a_table(rt: HostRuntime) -> Result<(), Fail> {
-        let mut state = State::new();
-        let lines: [&[u8]; 8] = [
-            b"! best",
-            b"= old",
-            b"+ 3",
-            b"= new",
-            b"# all",
-            b"1 1 0 4 40",
-            b"3 0 0 1 0 2 1 1",
-            b"+ 1",
-        ];
-        for text in lines {
-            state.take(&Line::read(text));
-        }
-        assert_eq!(rt; state.call, b"best".as_slice());
-        assert_eq!(rt; state.name, b"new".as_slice());
-        let want = [
-            1, 1, 0, 0, 4, 0, 40, 0, 3, 0, 0, 0, 1, 0, 0, 0, 3, 0, 1, 0, 2, 0, 0, 0, 0,
-        ];
-        assert_eq!(rt; state.table.as_slice(), want.as_slice());
-        Ok(())
-    }
-
-    #[test]
-    fn bytes_are_added_as_tables_left_them(rt: HostRuntime) -> Result<(), Fail> {
-        let mut state = State::new();
-        let lines: [&[u8]; 7] = [
-            b"= longest",
-            b"1 1 2 3 4 2",
-            b"= longer",
-            b"3 0 5 0 7",
-            b"= short",
-            b"+ 4",
-            b"+ 13",
-        ];
-        for text in lines {
-            state.take(&Line::read(text));
-        }
-        let want = [3, 0, 5, 0, 0, 0, 7, 0, 1, 1, 2, 0, 3, 0, 4, 0, 0];
-        assert_eq!(rt; state.table.as_slice(), want.as_slice());
-        Ok(())
-    }
-
-    #[test]
-    fn bytes_that_are_not_given_are_0(rt: HostRuntime) -> Result<(), Fail> {
-        let line = Line::read(b"? 7 40 0 3 0 3");
-        assert!(rt; matches!(line, Line::Run(_)));
-        if let Line::Run(run) = line {
-            assert_eq!(rt; run.choice().as_slice(), [0, 3, 0, 3, 0, 0, 0].as_slice());
-            assert_eq!(rt; run.buffer, 40);
-        }
-        Ok(())
     }
 }

@@ -1,7 +1,7 @@
 // The numbers of a line.
 
 // A line's bytes from which numbers are read, one after another: each byte that is no digit ends one.
-#[derive(Clone, Copy, Debug)]
+#[derive(Clone, Copy)]
 pub struct Numbers<'a> {
     rest: &'a [u8],
 }

@@ -6,7 +6,7 @@ use crate::Table;
 use crate::numbers::Numbers;
 
 // A field of records in a row: its number in the first of them, and whether it goes up by one from each to the next.
-#[derive(Clone, Copy, Debug)]
+#[derive(Clone, Copy)]
 pub struct Field {
     pub first: u16,
     pub rises: bool,
@@ -26,7 +26,7 @@ impl Field {
 }
 
 // So many records in a row, which differ at most in a and b.
-#[derive(Clone, Copy, Debug)]
+#[derive(Clone, Copy)]
 pub struct Records {
     pub kind: u8,
     pub sort: u8,
