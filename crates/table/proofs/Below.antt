@@ -15,7 +15,6 @@ use borrow.Author.Tests.{leb-false, lt-ltb, le-ltb}
 use borrow.Author.Count.{below_more}
 use Rattle.table.specs.Below.{earliest, any, count}
 use Rattle.table.specs.Record.{records, is_function, functions}
-use Rattle.table.specs.Scan.{FirstBy}
 use Rattle.table.proofs.Booleans.{not_both, or_true}
 
 -- below a bound, and one more: the last one or one before it
@@ -118,14 +117,6 @@ any_more f n = rw add-one refl
 -- one more number that the test does not pass
 pub passed_more : (f : ℕ → Bool) (i : ℕ) → ((k : ℕ) → k < i → f k ≡ false) → f i ≡ false → (k : ℕ) → k < i + 1 → f k ≡ false
 passed_more f i h e = below_more _ _ h e
-
--- what a search by a closure finds is the least number that passes the test
-pub first_by : {gives : ℕ → Bool → Type 0} {n : ℕ} {o : Option ℕ} (f : ℕ → Bool) → FirstBy gives n o → ((k : ℕ) (b : Bool) → gives k b → b ≡ f k) → o ≡ earliest f n
-first_by {n = n} {o = o} f h same = go o refl
-  where
-    go : (p : Option ℕ) → o ≡ p → p ≡ earliest f n
-    go None e = sym (earliest_none f n (λ k l. sym (same k false (h.nowhere e k l))))
-    go (Some r) e = sym (earliest_some f n r (h.within r e) (λ k l. sym (same k false (h.before r e k l))) (sym (same r true (h.here r e))))
 
 -- whether one passes at all
 pub any_told : (f : ℕ → Bool) (n : ℕ) → not (any f n) ≡ is_none (earliest f n)

@@ -1,6 +1,6 @@
 -- What a chain over the numbers below a bound finds: how many pass a test, which is the first past a limit of them, and which is the first.
-use Prim.Native.Nat.{ℕ, zero, suc, ◌+◌, ◌<◌, ◌≤◌}
-use mathlib.Core.Path.{◌≡◌, refl, sym, ap, ◌∙◌, subst}
+use Prim.Native.Nat.{ℕ, zero, suc, ◌+◌, ◌<◌}
+use mathlib.Core.Path.{◌≡◌, refl, sym, ap, ◌∙◌}
 use mathlib.Core.List.{List, ◌∷◌}
 use mathlib.Core.Bool.{Bool, true, false, cond, ◌&&◌}
 use native.Mathlib.Omega.{arith}
@@ -8,11 +8,9 @@ use Rattle.std.proofs.Common.{add-zero, zero-add}
 use lib.Dec.{leb}
 use lib.ListN.{length}
 use borrow.Author.Tests.{le-leb, lt-leb}
-use Rattle.std.specs.Prelude.{Option, None, Some, MatchOption, option_map}
+use Rattle.std.specs.Prelude.{Option, None, Some, option_map}
 use Rattle.std.specs.List.{filter, range_with_len, slice_get}
 use Rattle.table.specs.Below.{earliest, count}
-use Rattle.table.specs.Scan.{FirstBy}
-use Rattle.table.proofs.Booleans.{some_not_none}
 use Rattle.table.proofs.Below.{earliest_none, earliest_some, passed_more, count_none, count_more}
 
 module _ (f : ℕ → Bool) where
@@ -58,20 +56,3 @@ module _ (f : ℕ → Bool) where
         same : (o : Option ℕ) → option_map (λ x. x) o ≡ o
         same None = refl
         same (Some x) = refl
-
--- what a search by a closure says, as a record
-pub found_by : {gives : ℕ → Bool → Type 0} (n : ℕ) (o : Option ℕ)
-    → MatchOption o ((k : ℕ) → 0 ≤ k → k < n → gives k false) (λ r. (0 ≤ r) × (r < n) × gives r true × ((k : ℕ) → 0 ≤ k → k < r → gives k false))
-    → FirstBy gives n o
-found_by n None h = record {
-  nowhere = λ e k l. h k (omega arith) l;
-  within = λ r e. absurd (some_not_none r (sym e));
-  before = λ r e. absurd (some_not_none r (sym e));
-  here = λ r e. absurd (some_not_none r (sym e));
-}
-found_by {gives} n (Some p) h = record {
-  nowhere = λ e. absurd (some_not_none p e);
-  within = λ r e. let i : p ≡ r = cc in subst (λ m. m < n) i h.1;
-  before = λ r e. let i : p ≡ r = cc in subst (λ m. (k : ℕ) → k < m → gives k false) i (λ k l. h.3 k (omega arith) l);
-  here = λ r e. let i : p ≡ r = cc in subst (λ m. gives m true) i h.2;
-}

@@ -12,3 +12,4 @@ mod SameButEdges
 mod Answer
 mod Scanning
 mod Chains
+mod Told

@@ -1,21 +1,11 @@
 -- For the contracts of the passes over the records. Helps proofs only: no public promise rests on it.
-use Rattle.std.specs.Prelude.{ℕ, ◌<◌, ◌≡◌, List, Bool, true, false, ◌&&◌, eqb, leb, Option, None, Some, Result, Ok, Err}
+use Rattle.std.specs.Prelude.{ℕ, List, Bool, false, ◌&&◌, eqb, leb, Option, None}
 use Rattle.table.specs.declared.refusal.Cause.{Cause}
-use Rattle.table.specs.declared.refusal.Refused.{Refused}
+use Rattle.table.specs.declared.refusal.Cause.TheVariants.{Length, Unlisted, OutOfOrder, TooMany, NoEntry, Absent, Foreign, NotPlain, Choice, Verdicts, Sizes}
 use Rattle.table.specs.Below.{count}
-use Rattle.table.specs.Record.{kind_of}
-
--- The first number below n at which a test gives true, if there is one, where the test is known by what it gives.
-pub record FirstBy (gives : ℕ → Bool → Type 0) (n : ℕ) (o : Option ℕ) : Type 0 where
-  pub nowhere : o ≡ None → (k : ℕ) → k < n → gives k false
-  pub within : (r : ℕ) → o ≡ Some r → r < n
-  pub before : (r : ℕ) → o ≡ Some r → (k : ℕ) → k < r → gives k false
-  pub here : (r : ℕ) → o ≡ Some r → gives r true
-
--- refused for a cause that was found somewhere
-abbrev pub pass_of : Cause → Option ℕ → Result (Unit {0}) Refused
-pass_of cause None = Ok tt
-pass_of cause (Some p) = Err (record { cause = cause; place = p })
+use Rattle.table.specs.Refusal.{of_whole}
+use Rattle.table.specs.Record.{records, kind_of, is_entry}
+use Rattle.table.specs.Checks.{broken, unlisted, out_of_order, too_many, no_entry, absent, foreign, not_plain, of_record}
 
 -- record r is of kind k; and as many as the limit stand before it
 abbrev pub of_kind : List ℕ → ℕ → ℕ → Bool
@@ -23,3 +13,31 @@ of_kind t k r = eqb (kind_of t r) k
 
 abbrev pub surplus_of : List ℕ → ℕ → ℕ → ℕ → Bool
 surplus_of t k limit r = of_kind t k r && leb limit (count (of_kind t k) r)
+
+-- what the check for a cause looks for among the records: what it refuses, and of check 5 an entry
+abbrev pub sought : Cause → List ℕ → ℕ → Bool
+sought Unlisted = unlisted
+sought OutOfOrder = out_of_order
+sought NoEntry = is_entry
+sought Absent = absent
+sought Foreign = foreign
+sought NotPlain = not_plain
+sought Length = λ t r. false
+sought TooMany = λ t r. false
+sought Choice = λ t r. false
+sought Verdicts = λ t r. false
+sought Sizes = λ t r. false
+
+-- the place of the row for a cause, where it is about the table itself
+abbrev pub place_for : Cause → List ℕ → Option ℕ
+place_for Length = of_whole broken records
+place_for Unlisted = of_record unlisted
+place_for OutOfOrder = of_record out_of_order
+place_for TooMany = of_record too_many
+place_for NoEntry = of_whole no_entry (λ t. 0)
+place_for Absent = of_record absent
+place_for Foreign = of_record foreign
+place_for NotPlain = of_record not_plain
+place_for Choice = λ t. None
+place_for Verdicts = λ t. None
+place_for Sizes = λ t. None

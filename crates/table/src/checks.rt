@@ -1,12 +1,16 @@
 // The tests of document 01's "Refused tables" that look at one record.
 ghost use Rattle.std.specs.Prelude.{◌≡◌, ◌<◌};
-ghost use Rattle.table.specs.Record.{node_owner, node_sort, is_entry, has_target};
+ghost use Rattle.table.specs.Record.{records, node_owner, node_sort, is_entry, has_target};
 ghost use Rattle.table.specs.Checks.{unlisted, out_of_order, absent, foreign, not_plain};
+ghost use Rattle.table.specs.Below.{earliest};
 ghost use Rattle.table.specs.Answer.{CountsOf};
+ghost use Rattle.table.specs.Scan.{sought, place_for};
 
 use crate::Counts;
 use crate::kinds::{Kind, is_of, listed_kind};
 use crate::record::{field_a, field_b, field_c, kind, sort};
+use crate::refusal::Cause;
+use crate::scan::first_too_many;
 
 // Whether a node of this sort has a target. Sorts stay numbers in all these tests: each kind lists other ones, so an enum of the sorts
 // of one kind would be wrong for the others.
@@ -18,7 +22,7 @@ fn has_target(s: u8) -> bool
 
 // 2: a kind or sort that is not listed, or a field that must be 0 and isn't.
 #[tactic(auto, unfolding(crate::specs::Checks::unlisted))]
-pub(crate) fn is_unlisted(t: &[u8], r: usize) -> bool
+fn is_unlisted(t: &[u8], r: usize) -> bool
     ensures { result ≡ unlisted t.now r }
 {
     let s = sort(t, r);
@@ -34,14 +38,14 @@ pub(crate) fn is_unlisted(t: &[u8], r: usize) -> bool
 
 // 3: a kind lower than that of the record before. It compares bytes, since it speaks of kinds that are not listed too.
 #[tactic(auto, using(crate::proofs::Scanning::in_order, crate::proofs::Scanning::later))]
-pub(crate) fn is_out_of_order(t: &[u8], r: usize) -> bool
+fn is_out_of_order(t: &[u8], r: usize) -> bool
     ensures { result ≡ out_of_order t.now r }
 {
     r != 0 && kind(t, r) < kind(t, r - 1)
 }
 
 // 5 wants one of these. Sort 1 is an entry here, and of a node it is a call.
-pub(crate) fn is_entry(t: &[u8], r: usize) -> bool
+fn is_entry(t: &[u8], r: usize) -> bool
     ensures { result ≡ is_entry t.now r }
 {
     is_of(t, r, Kind::Function) & (sort(t, r) == 1)
@@ -76,7 +80,7 @@ impl Counted<'_> {
 
     // 6: a function or node number that doesn't exist.
     #[tactic(auto, unfolding(crate::specs::Checks::absent))]
-    pub(crate) fn is_absent(&self, r: usize) -> bool
+    fn is_absent(&self, r: usize) -> bool
         ensures { result ≡ absent self.now.t.now r }
     {
         let a = field_a(self.t, r);
@@ -91,7 +95,7 @@ impl Counted<'_> {
 
     // 7: a first or exit node that another function owns, or an edge between two functions.
     #[tactic(auto, unfolding(crate::specs::Checks::foreign))]
-    pub(crate) fn is_foreign(&self, r: usize) -> bool
+    fn is_foreign(&self, r: usize) -> bool
         ensures { result ≡ foreign self.now.t.now r }
     {
         let a = self.owner(field_a(self.t, r));
@@ -105,11 +109,49 @@ impl Counted<'_> {
 
     // 8: a first or exit node that is not plain.
     #[tactic(auto, unfolding(crate::specs::Checks::not_plain))]
-    pub(crate) fn is_not_plain(&self, r: usize) -> bool
+    fn is_not_plain(&self, r: usize) -> bool
         ensures { result ≡ not_plain self.now.t.now r }
     {
         let a = self.node_sort(field_a(self.t, r));
         let b = self.node_sort(field_b(self.t, r));
         is_of(self.t, r, Kind::Function) & !((a == 0) & (b == 0))
+    }
+
+    // Whether record r is what the check for this cause looks for: what it refuses, and of check 5 an entry, which it wants.
+    fn finds(&self, cause: Cause, r: usize) -> bool
+        ensures { result ≡ sought cause self.now.t.now r }
+    {
+        match cause {
+            Cause::Unlisted => is_unlisted(self.t, r),
+            Cause::OutOfOrder => is_out_of_order(self.t, r),
+            Cause::NoEntry => is_entry(self.t, r),
+            Cause::Absent => self.is_absent(r),
+            Cause::Foreign => self.is_foreign(r),
+            Cause::NotPlain => self.is_not_plain(r),
+            _ => false,
+        }
+    }
+
+    // The first record that it looks for.
+    fn first(&self, cause: Cause) -> Option<usize>
+        ensures { result ≡ earliest (sought cause self.now.t.now) (records self.now.t.now) }
+    {
+        (0..self.t.len() / 8).find(|r| self.finds(cause, *r))
+    }
+
+    // Where the check for this cause applies.
+    pub(crate) fn place_of(&self, cause: Cause) -> Option<usize>
+        ensures { result ≡ place_for cause self.now.t.now }
+    {
+        let n = self.t.len() / 8;
+        match cause {
+            Cause::Length => (self.t.len() % 8 != 0).then_some(n),
+            Cause::TooMany => first_too_many(self.t, n),
+            Cause::NoEntry => {
+                let no_entry = (self.of.functions == 0) | self.first(cause).is_none();
+                no_entry.then_some(0)
+            }
+            _ => self.first(cause),
+        }
     }
 }

@@ -9,11 +9,10 @@ mod scan;
 
 ghost use Rattle.std.specs.Prelude.{◌≡◌};
 ghost use Rattle.table.specs.Answer.{outcome, outcome_of};
-ghost use Rattle.table.specs.Scan.{pass_of};
 
-use checks::{Counted, is_entry, is_out_of_order, is_unlisted};
+use checks::Counted;
 use refusal::{Cause, Refused};
-use scan::{first, first_too_many, tally};
+use scan::tally;
 
 // How many records there are of each kind.
 #[derive(Clone, Copy)]
@@ -23,32 +22,28 @@ pub struct Counts {
     pub edges: usize,
 }
 
-// Refuses for a cause that was found somewhere.
-fn pass(cause: Cause, found: Option<usize>) -> Result<(), Refused>
-    ensures { result ≡ pass_of cause found }
-{
-    match found {
-        Some(place) => Err(Refused { cause, place }),
-        None => Ok(()),
-    }
-}
+// The rows of "Refused tables" about the table itself, in their order.
+const ROWS: [Cause; 8] = [
+    Cause::Length,
+    Cause::Unlisted,
+    Cause::OutOfOrder,
+    Cause::TooMany,
+    Cause::NoEntry,
+    Cause::Absent,
+    Cause::Foreign,
+    Cause::NotPlain,
+];
 
 // Checks a table of any length: the first check of document 01 that applies, lowest number first, at its earliest place.
 pub fn check(t: &[u8]) -> Result<Counts, Refused>
     ensures { outcome_of result ≡ outcome t.now }
 {
-    let n = t.len() / 8;
     let of = tally(t);
     let counted = Counted { t, of };
-    pass(Cause::Length, (t.len() % 8 != 0).then_some(n))?;
-    pass(Cause::Unlisted, first(n, |r| is_unlisted(t, r)))?;
-    pass(Cause::OutOfOrder, first(n, |r| is_out_of_order(t, r)))?;
-    pass(Cause::TooMany, first_too_many(t, n))?;
-    let entry = first(n, |r| is_entry(t, r));
-    let no_entry = (of.functions == 0) | entry.is_none();
-    pass(Cause::NoEntry, no_entry.then_some(0))?;
-    pass(Cause::Absent, first(n, |r| counted.is_absent(r)))?;
-    pass(Cause::Foreign, first(n, |r| counted.is_foreign(r)))?;
-    pass(Cause::NotPlain, first(n, |r| counted.is_not_plain(r)))?;
+    for cause in ROWS {
+        if let Some(place) = counted.place_of(cause) {
+            return Err(Refused { cause, place });
+        }
+    }
     Ok(of)
 }

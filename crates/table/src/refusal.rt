@@ -5,7 +5,7 @@ ghost use Rattle.table.specs.Answer.{number_of};
 use std::fmt;
 
 // The rows of "Refused tables" in their order: of the table itself down to `NotPlain`, and then of what is handed in beside it.
-#[derive(Clone, Copy, Debug, PartialEq, Eq)]
+#[derive(Clone, Copy, Debug)]
 pub enum Cause {
     Length,
     Unlisted,
@@ -42,7 +42,7 @@ impl From<Cause> for u32 {
 }
 
 // "a numbered refusal with a place"
-#[derive(Clone, Copy, Debug, PartialEq, Eq)]
+#[derive(Clone, Copy, Debug)]
 pub struct Refused {
     pub cause: Cause,
     pub place: usize,

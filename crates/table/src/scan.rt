@@ -4,7 +4,7 @@ ghost use Rattle.table.specs.Below.{count, earliest};
 ghost use Rattle.table.specs.Kind.{number_of_kind};
 ghost use Rattle.table.specs.Checks.{too_many};
 ghost use Rattle.table.specs.Answer.{CountsOf};
-ghost use Rattle.table.specs.Scan.{FirstBy, of_kind, surplus_of};
+ghost use Rattle.table.specs.Scan.{of_kind, surplus_of};
 
 use crate::Counts;
 use crate::kinds::{Kind, is_of};
@@ -44,12 +44,4 @@ pub(crate) fn first_too_many(t: &[u8], n: usize) -> Option<usize>
     let function = first_surplus(t, Kind::Function, 64, n);
     let node = first_surplus(t, Kind::Node, 512, function.unwrap_or(n)).or(function);
     first_surplus(t, Kind::Edge, 1024, node.unwrap_or(n)).or(node)
-}
-
-// The first of n records at which the test passes.
-pub(crate) fn first<F: Fn(usize) -> bool>(n: usize, test: F) -> Option<usize>
-    requires { F.IsAlwaysCallable test }
-    ensures { FirstBy (F.post test) n result }
-{
-    (0..n).find(|r| test(*r))
 }
