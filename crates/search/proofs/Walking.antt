@@ -3,10 +3,11 @@ use Rattle.std.proofs.Common.{◌≡◌, ℕ, suc, ◌+◌, ◌-◌, ◌<◌, �
 use Rattle.std.proofs.lemmas.Bool.{eqb-false}
 use native.Mathlib.Decide.{ℕ_discrete}
 use Rattle.std.proofs.lemmas.List.{get_or-map}
+use Rattle.table.specs.Record.{spawn}
 use Rattle.table.specs.Program.{Program}
 use Rattle.table.proofs.Laws.{well_formed}
 use Rattle.size.specs.Numbers.{at}
-use Rattle.rules.specs.Choice.{AtMost}
+use Rattle.rules.specs.Choice.{AtMost, guarded}
 use Rattle.sizes.specs.Call.{choice_of}
 use Rattle.sizes.specs.Trials.{known_program, PreparedFor, StartsFor, Holds}
 use Rattle.sizes.specs.declared.trials.Prepared.{Prepared}
@@ -17,7 +18,7 @@ use Rattle.safety.proofs.Laws.{unmerged_safe}
 use Rattle.preference.specs.Preference.{InOrder}
 use Rattle.search.specs.declared.verdict.Verdict.{Verdict}
 use Rattle.search.specs.Verdict.{level}
-use Rattle.search.specs.Walk.{Unmerged, raised_to, Walked}
+use Rattle.search.specs.Walk.{Unmerged, raised_to, Walked, Merged, OthersZero}
 use Rattle.search.proofs.Laws.{nothing_merged}
 
 -- the last of the first i + 1, or one before it
@@ -175,3 +176,35 @@ module _ (p : Prepared) (spawns : List ℕ) (o : InOrder (known_program p.known)
 -- unmerged everywhere is safe, since it has sizes
 pub unmerged_start : {p : Prepared} {c : ℕ → ℕ} {s : List ℕ} → PreparedFor p → Unmerged (known_program p.known) c → Holds p c s → Safe (known_program p.known) c
 unmerged_start {p} {c} q u h = unmerged_safe (known_program p.known) c (nothing_merged (known_program p.known) c u) (well_formed p.known.program.table.now p.known.program.ready.accepted_is) _ (holds_least q h)
+
+-- the first walk gives only spawns a verdict
+pub merged_others : {g : Program} {count : ℕ} {order to : ℕ → ℕ} → InOrder g count order → Merged g count order to → OthersZero g to
+merged_others {g} {count} {order} {to} o m n h other = go (m.walked.moved n h)
+  where
+    go : Moved g guarded order m.start count to n → to n ≡ 0
+    go (inl e) = e ∙ m.unmerged_is.others n h other
+    go (inr (a, b, (j, l, e))) = absurd (other (ap g.sort (sym e) ∙ (o.spawns j l).spawns))
+
+-- all that waited were raised at once, and each of them is a spawn, since it had a verdict
+module _ {g : Program} {count : ℕ} {order : ℕ → ℕ} (o : InOrder g count order) (k : ℕ) (above : 2 ≤ k) (old : List ℕ) (fits : g.nodes ≤ length old) (others : OthersZero g (choice_of old)) where
+  walked_all : Safe g (choice_of (map (raised_to k) old)) → Walked g k count order (choice_of old) (choice_of (map (raised_to k) old))
+  walked_all safe = record {
+    safe = safe;
+    moved = λ n h. moved n h (ℕ_discrete (choice_of old n) (k - 1));
+    blocked = λ j l a b. let e = waited (order j) (o.spawns j l).exists (omega (arith, a)) in absurd (omega (arith, b, e));
+  }
+    where
+      waited : (n : ℕ) → n < g.nodes → choice_of old n ≡ k - 1 → choice_of (map (raised_to k) old) n ≡ k
+      waited n h q = raised_at k old n (omega arith) ∙ rw (eq-eqb (choice_of old n) (k - 1) q) refl
+
+      placed : (n : ℕ) → n < g.nodes → choice_of old n ≡ k - 1 → Dec (g.sort n ≡ spawn) → (j : ℕ) × (j < count) × (order j ≡ n)
+      placed n h q (yes e) = o.all n (record { exists = h; spawns = e })
+      placed n h q (no d) = absurd (omega (arith, others n h d))
+
+      moved : (n : ℕ) → n < g.nodes → Dec (choice_of old n ≡ k - 1) → Moved g k order (choice_of old) count (choice_of (map (raised_to k) old)) n
+      moved n h (yes q) = inr (omega arith, waited n h q, placed n h q (ℕ_discrete (g.sort n) spawn))
+      moved n h (no q) = inl (raised_at k old n (omega arith) ∙ rw (ne_eqb (choice_of old n) (k - 1) q) refl)
+
+  -- as a trial of all tells it
+  pub walked_at_once : {new : List ℕ} → new ≡ map (raised_to k) old → Safe g (choice_of new) → Walked g k count order (choice_of old) (choice_of new)
+  walked_at_once e safe = rw e (walked_all (rw e at safe))

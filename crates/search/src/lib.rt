@@ -19,7 +19,6 @@ use verdict::Verdict;
 pub use work::Work;
 
 // What two walks come to for a prepared table, from unmerged everywhere.
-#[tactic(auto, using(preference::proofs::Firsts::order_cut))]
 pub fn find(found: &mut Found, prepared: &Prepared<'_>)
     requires { PreparedFor prepared.now × Starts (known_program prepared.now.known) found.old }
     ensures { Searched prepared.now found.new }

@@ -32,7 +32,6 @@ impl Found {
     }
 
     // A walk over the spawns: all at once, if that is safe, and else one by one.
-    #[tactic(auto, using(crate::proofs::Walking::starts_all))]
     pub(crate) fn walk(&mut self, problem: &Problem<'_>, verdict: Verdict)
         requires posed { WellPosed problem.now }
         requires above { 2 ≤ level verdict }
@@ -48,7 +47,6 @@ impl Found {
     }
 
     // The first walk, from unmerged everywhere. The sizes of that choice are found only where not all spawns can be merged at once.
-    #[tactic(auto, using(sizes::proofs::Trying::zeros_start))]
     pub(crate) fn merge(&mut self, problem: &Problem<'_>)
         requires posed { WellPosed problem.now }
         requires unmerged { Unmerged (program_in problem.now) (choice_of self.old.verdicts) }

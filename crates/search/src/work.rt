@@ -1,7 +1,7 @@
 // How much work a search takes.
 
 // How many trials, and how many turns over the rules in all. Of these numbers nothing is promised.
-#[derive(Clone, Copy, Debug, Default, PartialEq, Eq)]
+#[derive(Clone, Copy, Debug, Default)]
 pub struct Work {
     pub trials: u32,
     pub turns: u32,

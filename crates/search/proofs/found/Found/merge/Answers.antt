@@ -1,5 +1,6 @@
-use Rattle.std.proofs.Common.{refl, ◌∙◌}
-use Rattle.search.proofs.Walking.{unmerged_start}
+use Rattle.std.proofs.Common.{refl, ◌∙◌, arith}
+use Rattle.sizes.proofs.Trying.{zeros_start}
+use Rattle.search.proofs.Walking.{unmerged_start, walked_at_once}
 use Rattle.search.proofs.found.Found.merge.Goals as goal
 
 pub one_by_one-requires-clause-safe : goal.one_by_one-requires-clause-safe
@@ -14,3 +15,15 @@ pub returns-clause-merged : goal.returns-clause-merged
 returns-clause-merged c =
     let e = c.find_sizes.ensures.same ∙ (c.if-all_at_once.ensures.none refl).0 in
     record { start = _; unmerged_is = rw e c.requires.unmerged; walked = c.one_by_one.ensures.walked }
+
+pub all_at_once-requires-clause-starts_for : goal.all_at_once-requires-clause-starts_for
+all_at_once-requires-clause-starts_for c = zeros_start c.requires.zeros
+
+pub returns-then-all_at_once-clause-merged : goal.returns-then-all_at_once-clause-merged
+returns-then-all_at_once-clause-merged c =
+    let all = c.if-all_at_once.ensures.all refl in
+    record {
+      start = _;
+      unmerged_is = c.requires.unmerged;
+      walked = walked_at_once c.requires.posed.in_order _ (omega arith) _ (omega arith) c.requires.unmerged.others all.0 all.1;
+    }
