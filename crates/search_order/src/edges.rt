@@ -107,8 +107,10 @@ fn search_all(program: &Program<'_>) -> [u16; 1024] {
         depth: 0,
         place: program.of.edges,
     };
-    let starts = (0..program.of.functions).map(|f| program.first(f));
-    for n in starts.chain(0..program.of.nodes) {
+    for f in 0..program.of.functions {
+        search.from(program.first(f));
+    }
+    for n in 0..program.of.nodes {
         search.from(n);
     }
     search.order

@@ -41,11 +41,12 @@ fn waits(targets: &[u64], left: u64, f: usize) -> bool {
     own & left & !bit(f) != 0
 }
 
-// The first function that is left and has no targets left, or else the first that is left.
-fn next_function(targets: &[u64], left: u64) -> Option<usize> {
+// The first function that is left and has no targets left, or else the first that is left: bits past the functions stay, so that there always is one.
+// Its number is cast, since a bit's place is at most 64.
+fn next_function(targets: &[u64], left: u64) -> usize {
     (0..targets.len())
         .find(|f| is_left(left, *f) && !waits(targets, left, *f))
-        .or_else(|| (0..targets.len()).find(|f| is_left(left, *f)))
+        .unwrap_or(left.trailing_zeros() as usize)
 }
 
 // Takes functions until none is left.
@@ -55,10 +56,9 @@ fn search_all(program: &Program<'_>) -> [u16; 64] {
     find_targets(program, &mut targets);
     let mut left = u64::MAX;
     for q in 0..program.of.functions {
-        if let Some(f) = next_function(&targets[..program.of.functions], left) {
-            put(&mut order, q, f);
-            left &= !bit(f);
-        }
+        let f = next_function(&targets[..program.of.functions], left);
+        put(&mut order, q, f);
+        left &= !bit(f);
     }
     order
 }
