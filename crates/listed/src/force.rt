@@ -23,7 +23,6 @@ fn has_word(program: &Program<'_>, choice: &[u8], word: u64) -> bool
 }
 
 // Those of them that a choice has. The library's `extend` answers an error where the vector is full, which can't come here.
-#[tactic(auto, using(crate::proofs::Widest::kept_none, crate::proofs::Widest::kept_skip, crate::proofs::Widest::kept_add, crate::proofs::Widest::kept_lists))]
 pub(crate) fn in_force<const N: usize>(
     known: &Known<'_>,
     choice: &[u8],
