@@ -1,12 +1,11 @@
--- What a chain over the numbers below a bound finds: how many pass a test, which is the first past a limit of them, and which is the first.
+-- What a chain over the numbers below a bound finds: the first that passes a test past a limit of them.
 use Prim.Native.Nat.{ℕ, zero, suc, ◌+◌, ◌<◌}
 use mathlib.Core.Path.{◌≡◌, refl, sym, ap, ◌∙◌}
 use mathlib.Core.List.{List, ◌∷◌}
 use mathlib.Core.Bool.{Bool, true, false, cond, ◌&&◌}
 use native.Mathlib.Omega.{arith}
-use Rattle.std.proofs.Common.{add-zero, zero-add}
+use Rattle.std.proofs.Common.{zero-add}
 use lib.Dec.{leb}
-use lib.ListN.{length}
 use borrow.Author.Tests.{le-leb, lt-leb}
 use Rattle.std.specs.Prelude.{Option, None, Some, option_map}
 use Rattle.std.specs.List.{filter, range_with_len, slice_get}
@@ -17,18 +16,6 @@ module _ (f : ℕ → Bool) where
   -- of the n numbers from a on, those that pass
   abbrev passing : ℕ → ℕ → List ℕ
   passing a n = filter f (range_with_len a n)
-
-  counted_from : (a n : ℕ) → length (passing a n) + count f a ≡ count f (a + n)
-  counted_from a zero = zero-add (count f a) ∙ ap (count f) (sym (add-zero a))
-  counted_from a (suc n) = go (f a) refl (counted_from (a + 1) n ∙ ap (count f) (let e : a + 1 + n ≡ a + suc n = omega arith in e))
-    where
-      go : (b : Bool) → f a ≡ b → length (passing (a + 1) n) + count f (a + 1) ≡ count f (a + suc n) → length (cond b (a ∷ passing (a + 1) n) (passing (a + 1) n)) + count f a ≡ count f (a + suc n)
-      go true e ih = omega (arith, ih, rw e at (count_more f a))
-      go false e ih = omega (arith, ih, rw e at (count_more f a))
-
-  -- as many as the count of those below n
-  pub counted : (n : ℕ) → length (passing 0 n) ≡ count f n
-  counted n = omega (arith, counted_from 0 n, count_none f, ap (count f) (zero-add n))
 
   -- a number that passes, with as many as the limit before it: it is at the limit's place among those that pass
   abbrev surplus : ℕ → ℕ → Bool

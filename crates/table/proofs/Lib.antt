@@ -12,4 +12,5 @@ mod SameButEdges
 mod Answer
 mod Scanning
 mod Chains
+mod Counting
 mod Told

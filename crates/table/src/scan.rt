@@ -1,20 +1,13 @@
 // Passes over the records.
 ghost use Rattle.std.specs.Prelude.{◌≡◌, ◌≤◌};
-ghost use Rattle.table.specs.Below.{count, earliest};
+ghost use Rattle.table.specs.Below.{earliest};
 ghost use Rattle.table.specs.Kind.{number_of_kind};
 ghost use Rattle.table.specs.Checks.{too_many};
 ghost use Rattle.table.specs.Answer.{CountsOf};
 ghost use Rattle.table.specs.Scan.{of_kind, surplus_of};
 
 use crate::Counts;
-use crate::kinds::{Kind, is_of};
-
-// How many of the first n records are of the kind.
-pub(crate) fn count_kind(t: &[u8], kind: Kind, n: usize) -> usize
-    ensures { result ≡ count (of_kind t.now (number_of_kind kind)) n }
-{
-    (0..n).filter(|r| is_of(t, *r, kind)).count()
-}
+use crate::kinds::{Kind, is_of, listed_kind};
 
 // The first of n records that is one more of the kind than the limit.
 pub(crate) fn first_surplus(t: &[u8], kind: Kind, limit: usize, n: usize) -> Option<usize>
@@ -28,12 +21,20 @@ pub(crate) fn first_surplus(t: &[u8], kind: Kind, limit: usize, n: usize) -> Opt
 pub(crate) fn tally(t: &[u8]) -> Counts
     ensures { CountsOf t.now result }
 {
-    let n = t.len() / 8;
-    Counts {
-        functions: count_kind(t, Kind::Function, n),
-        nodes: count_kind(t, Kind::Node, n),
-        edges: count_kind(t, Kind::Edge, n),
+    let mut of = Counts {
+        functions: 0,
+        nodes: 0,
+        edges: 0,
+    };
+    for r in 0..t.len() / 8 {
+        match listed_kind(t, r) {
+            Some(Kind::Function) => of.functions += 1,
+            Some(Kind::Node) => of.nodes += 1,
+            Some(Kind::Edge) => of.edges += 1,
+            None => {}
+        }
     }
+    of
 }
 
 // 4: the first of n records that is one more of its kind than allowed.
