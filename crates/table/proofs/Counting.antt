@@ -1,18 +1,19 @@
--- Records counted by their kinds, one after another.
-use Prim.Native.Nat.{ℕ, ◌+◌, ◌≤◌}
-use mathlib.Core.Path.{◌≡◌, refl}
-use mathlib.Core.Bool.{Bool, true, false}
+-- Records counted by their kinds, one after another, all of them or up to a limit.
+use Prim.Native.Nat.{ℕ, ◌+◌, ◌<◌, ◌≤◌}
+use mathlib.Core.Path.{◌≡◌, refl, sym}
+use mathlib.Core.Bool.{Bool, true, false, ◌&&◌}
 use mathlib.Core.List.{List}
 use native.Mathlib.Omega.{arith}
-use borrow.Author.Tests.{ne_eqb}
+use lib.Dec.{leb}
+use borrow.Author.Tests.{ne_eqb, le-leb, lt-leb}
 use Rattle.std.specs.Prelude.{Option, None, Some}
-use Rattle.table.specs.Below.{count}
+use Rattle.table.specs.Below.{count, earliest}
 use Rattle.table.specs.Record.{kind_of, is_function, is_node, is_edge}
 use Rattle.table.specs.Kind.{IsListed}
 use Rattle.table.specs.declared.kinds.Kind.TheVariants.{Function, Node, Edge}
 use Rattle.table.specs.declared.kinds.Kind.{Kind}
 use Rattle.table.specs.declared.Counts.{Counts}
-use Rattle.table.proofs.Below.{count_none, count_more}
+use Rattle.table.proofs.Below.{count_none, count_more, passed_more, earliest_none, earliest_some}
 
 -- n of the first r records pass, which is no more than there are
 pub record Passed (test : ℕ → Bool) (r n : ℕ) : Type 0 where
@@ -50,3 +51,30 @@ tallied_more d (Some Function) e = record { functions_in = one_in d.functions_in
 tallied_more d (Some Node) e = record { functions_in = one_out d.functions_in (rw e refl); nodes_in = one_in d.nodes_in (rw e refl); edges_in = one_out d.edges_in (rw e refl) }
 tallied_more d (Some Edge) e = record { functions_in = one_out d.functions_in (rw e refl); nodes_in = one_out d.nodes_in (rw e refl); edges_in = one_in d.edges_in (rw e refl) }
 tallied_more d None e = record { functions_in = one_out d.functions_in (ne_eqb _ 1 e.0); nodes_in = one_out d.nodes_in (ne_eqb _ 2 e.1); edges_in = one_out d.edges_in (ne_eqb _ 3 e.2) }
+
+-- A search for the first number that passes with as many as the limit before it: none is among the first r, of which n pass.
+module _ (f : ℕ → Bool) (limit : ℕ) where
+  pub record NoneYet (r n : ℕ) : Type 0 where
+    pub passed : Passed f r n
+    pub within : n ≤ limit
+    pub none : (k : ℕ) → k < r → (f k && leb limit (count f k)) ≡ false
+
+  pub none_yet : NoneYet 0 0
+  none_yet = record { passed = record { count_is = omega (arith, count_none f); few = omega arith }; within = omega arith; none = λ k h. absurd (omega arith) }
+
+module _ {f : ℕ → Bool} {limit r n : ℕ} (d : NoneYet f limit r n) where
+  pub none_out : f r ≡ false → NoneYet f limit (r + 1) n
+  none_out e = record { passed = one_out d.passed e; within = d.within; none = passed_more (λ k. f k && leb limit (count f k)) r d.none (rw e refl) }
+
+  pub none_in : f r ≡ true → (n ≡ limit → ⊥) → NoneYet f limit (r + 1) (n + 1)
+  none_in e other = record {
+    passed = one_in d.passed e;
+    within = omega (arith, d.within);
+    none = passed_more (λ k. f k && leb limit (count f k)) r d.none (rw (e, lt-leb limit (count f r) (omega (arith, d.passed.count_is, d.within))) refl);
+  }
+
+  pub surplus_here : {m : ℕ} → f r ≡ true → n ≡ limit → r < m → Some r ≡ earliest (λ k. f k && leb limit (count f k)) m
+  surplus_here {m} e full h = sym (earliest_some (λ k. f k && leb limit (count f k)) m r h d.none (rw (e, le-leb limit (count f r) (omega (arith, d.passed.count_is))) refl))
+
+  pub surplus_nowhere : {m : ℕ} → m ≤ r → None ≡ earliest (λ k. f k && leb limit (count f k)) m
+  surplus_nowhere {m} h = sym (earliest_none (λ k. f k && leb limit (count f k)) m (λ k l. d.none k (omega arith)))

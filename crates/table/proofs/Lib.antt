@@ -11,6 +11,5 @@ mod Accepted
 mod SameButEdges
 mod Answer
 mod Scanning
-mod Chains
 mod Counting
 mod Told

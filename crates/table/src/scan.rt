@@ -13,7 +13,16 @@ use crate::kinds::{Kind, is_of, listed_kind};
 pub(crate) fn first_surplus(t: &[u8], kind: Kind, limit: usize, n: usize) -> Option<usize>
     ensures { result ≡ earliest (surplus_of t.now (number_of_kind kind) limit) n }
 {
-    (0..n).filter(|r| is_of(t, *r, kind)).nth(limit)
+    let mut before = 0;
+    for r in 0..n {
+        if is_of(t, r, kind) {
+            if before == limit {
+                return Some(r);
+            }
+            before += 1;
+        }
+    }
+    None
 }
 
 // How many of the records are of each kind.
