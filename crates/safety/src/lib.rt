@@ -3,10 +3,13 @@
 
 mod tests;
 
-ghost use Rattle.std.specs.Prelude.{length};
-ghost use Rattle.sizes.specs.Call.{call, choice_of, Leaves};
-ghost use Rattle.sizes.specs.Trials.{PreparedFor, StartsFor};
+ghost use Rattle.std.specs.Prelude.{◌≤◌, length};
+ghost use Rattle.rules.specs.Rules.{entries};
+ghost use Rattle.sizes.specs.Call.{call, choice_of, done, Leaves, LeavesFor};
+ghost use Rattle.sizes.specs.Trials.{known_program, PreparedFor, StartsFor};
 ghost use Rattle.safety.specs.Call.{Answers};
+ghost use Rattle.safety.specs.Safety.{Safe};
+ghost use Rattle.safety.specs.Test.{Tells};
 ghost use Rattle.safety.specs.Trial.{Tried};
 
 use sizes::admit::admit;
@@ -15,7 +18,7 @@ use sizes::trials::{Prepared, find_from};
 use table::refusal::Refused;
 use tests::both_hold;
 
-// What a trial comes to: whether the choice is safe, and the turns over the rules that this took, of which nothing is promised.
+// What a choice of a prepared table comes to: whether it is safe, and the turns over the rules that this took, of which nothing is promised.
 #[derive(Clone, Copy)]
 pub struct Judged {
     pub safe: bool,
@@ -37,6 +40,23 @@ pub fn trial(prepared: &Prepared<'_>, choice: &[u8], sizes: &mut [u32]) -> Judge
     Judged {
         safe,
         turns: found.turns(),
+    }
+}
+
+// For a list of choices: writes the sizes of one, found from zeros for a prepared table, and says whether it is safe.
+pub fn judge(prepared: &Prepared<'_>, choice: &[u8], out: &mut [u32]) -> Judged
+    requires { PreparedFor prepared.now × (entries (known_program prepared.now.known) ≤ length out.old) }
+    ensures safe { Tells result.safe (Safe (known_program prepared.now.known) (choice_of choice.now)) }
+    ensures leaves { LeavesFor prepared.now.known.program.table.now choice.now out.old done out.new }
+{
+    let program = &prepared.known.program;
+    let zeros = [0u32; 2304];
+    let found = find_from(prepared, choice, &zeros);
+    write(program, &found, out);
+    let turns = found.turns();
+    Judged {
+        safe: both_hold(program, &found),
+        turns,
     }
 }
 

@@ -10,7 +10,7 @@ use native.Mathlib.Nat.{div-eq_of_lt, mul-mod_left, one-mul}
 use native.Mathlib.Omega.{arith}
 use lib.Dec.{eqb}
 use lib.Bits.{bit_or, or_shr, or_mod}
-use lib.Pow.{pow_pos, pow-lt, pow-add, shl-shr}
+use lib.Pow.{pow_pos, pow-lt, pow-add, shl-shr, shl_exact}
 use borrow.Author.Tests.{eq-eqb, ne_eqb}
 use Rattle.sync.specs.Words.{bit, member}
 
@@ -56,6 +56,13 @@ bit_pow k j =
     (λ h. ap (λ (n : ℕ). eqb n 1) (low_bit k j h) ∙ sym (ne_eqb j k (λ e. omega arith)))
     (λ h. ap (λ (n : ℕ). eqb (n % 2) 1) (div-eq_of_lt (pow-lt h)) ∙ sym (ne_eqb j k (λ e. omega arith))))
     (three j k)
+
+-- a word of any width with bit k set
+pub bit_set : (width x k : ℕ) → k < width → (j : ℕ) → bit (bit_or x (1 * 2 ^ k % 2 ^ width)) j ≡ (eqb j k || bit x j)
+bit_set width x k h j =
+    ap (λ (n : ℕ). bit (bit_or x n) j) (shl_exact 1 k width (omega arith) (omega arith) ∙ one-mul (2 ^ k))
+    ∙ bit_or_lem x (2 ^ k) j
+    ∙ ap (λ (b : Bool). b || bit x j) (bit_pow k j)
 
 pub bit_none : (k : ℕ) → bit 0 k ≡ false
 unfolding bit

@@ -18,6 +18,7 @@ pub enum Cause {
     Choice,
     Verdicts,
     Sizes,
+    Number,
 }
 
 // Its number is what a program in C is told.
@@ -37,6 +38,7 @@ impl From<Cause> for u32 {
             Cause::Choice => 9,
             Cause::Verdicts => 10,
             Cause::Sizes => 11,
+            Cause::Number => 12,
         }
     }
 }
