@@ -16,6 +16,24 @@ pub extern "C" fn nagbiro_best_effort(t: &[u8], trials: &mut u32, passes: &mut u
     }
 }
 
+// Of a call with a list of choices, whose sizes go into what is lent.
+#[unsafe(no_mangle)]
+pub extern "C" fn nagbiro_list_effort(
+    t: &[u8],
+    count: usize,
+    choices: &[u8],
+    sizes: &mut [u32],
+    passes: &mut u32,
+) -> u32 {
+    match what_if::counted(t, count, choices, sizes) {
+        Ok(told) => {
+            *passes = told.turns;
+            0
+        }
+        Err(refused) => u32::from(refused.cause),
+    }
+}
+
 // Of the call for one choice.
 #[unsafe(no_mangle)]
 pub extern "C" fn nagbiro_one_effort(t: &[u8], choice: &[u8], passes: &mut u32) -> u32 {

@@ -12,6 +12,7 @@ use Rattle.table.proofs.Refusals.{refusal_pass, refusal_here}
 use Rattle.sizes.specs.Call.{Call, done, call_result, result_for, call_checks, choice_checks}
 use Rattle.sizes.proofs.Calls.{told_done}
 use Rattle.choice.specs.Call.{BestCall, best_result, best_checks, buffer_checks}
+use Rattle.what_if.specs.Call.{ListCall, list_checks, what_if_checks, what_if_result}
 use Rattle.nagbiro.specs.Codes.{table_result, code_of}
 
 -- no check of a list has the number 0
@@ -48,6 +49,10 @@ buffers_numbered : Numbered best_checks
 unfolding best_checks buffer_checks
 buffers_numbered = numbered_over (λ (x : BestCall). x.table) checks buffer_checks table_numbered (search rules)
 
+list_numbered : Numbered what_if_checks
+unfolding what_if_checks list_checks
+list_numbered = numbered_over (λ (x : ListCall). x.table) checks list_checks table_numbered (search rules)
+
 same_code : (t : List ℕ) (o : Option Refusal) → code_of (result_for o) ≡ code_of (table_result (outcome_for t o))
 unfolding result_for outcome_for
 same_code t None = refl
@@ -62,6 +67,11 @@ table_zero t e = none_zero t checks table_numbered (same_code t (refusal checks 
 pub choice_zero : (x : Call) → code_of (call_result x) ≡ 0 → done ≡ call_result x
 unfolding call_result
 choice_zero x e = told_done call_checks x (none_zero x call_checks choice_numbered e)
+
+-- the call for a list of choices
+pub list_zero : (x : ListCall) → code_of (what_if_result x) ≡ 0 → done ≡ what_if_result x
+unfolding what_if_result
+list_zero x e = told_done what_if_checks x (none_zero x what_if_checks list_numbered e)
 
 -- the best-choice call
 pub best_zero : (x : BestCall) → code_of (best_result x) ≡ 0 → done ≡ best_result x

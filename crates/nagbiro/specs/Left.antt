@@ -7,6 +7,7 @@ use Rattle.sync.specs.Words.{Eight, member}
 use Rattle.sizes.specs.Call.{Call, Result, choice_of, done, call_result}
 use Rattle.sizes.specs.Call.{refused as call-refused}
 use Rattle.safety.specs.Safety.{Safe}
+use Rattle.what_if.specs.Call.{ListCall, what_if_result, Safeties}
 
 -- a, b and c after a check: the numbers of functions, nodes and edges; or the place, and b and c as they were
 abbrev pub Counted : Outcome → (old_b old_c a b c : ℕ) → Type 0
@@ -33,3 +34,11 @@ JudgesFor (call-refused number place) x old new = new ≡ old
 
 abbrev pub Judges : Call → ℕ → ℕ → Type 0
 Judges x old new = JudgesFor (call_result x) x old new
+
+-- `safe` after a call with a list of choices: bit i says whether choice i is safe; and as it was where the call is refused
+abbrev pub JudgesListFor : Result → ListCall → ℕ → ℕ → Type 0
+JudgesListFor done x old new = Safeties x.table x.choices x.number new
+JudgesListFor (call-refused number place) x old new = new ≡ old
+
+abbrev pub JudgesList : ListCall → ℕ → ℕ → Type 0
+JudgesList x old new = JudgesListFor (what_if_result x) x old new

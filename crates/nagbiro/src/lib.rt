@@ -7,7 +7,8 @@ ghost use Rattle.sync.specs.Words.{Eight};
 ghost use Rattle.sizes.specs.Call.{call, call_result, LeavesFor};
 ghost use Rattle.choice.specs.Call.{best_call, best_result, LeavesBothFor};
 ghost use Rattle.nagbiro.specs.Codes.{table_result, code_of, Told};
-ghost use Rattle.nagbiro.specs.Left.{Counted, LeavesWords, Judges};
+ghost use Rattle.what_if.specs.Call.{list_call, what_if_result, LeavesListFor};
+ghost use Rattle.nagbiro.specs.Left.{Counted, LeavesWords, Judges, JudgesList};
 
 use sync::synchronising;
 use table::check;
@@ -80,6 +81,29 @@ pub extern "C" fn nagbiro_one_choice(
     match safety::safety(t, choice, sizes) {
         Ok(is_safe) => {
             *safe = u32::from(is_safe);
+            0
+        }
+        Err(refused) => tell(refused, place),
+    }
+}
+
+// The call for a list of choices: says which are safe, bit i of `safe` for choice i, and writes their sizes, one set after another.
+#[unsafe(no_mangle)]
+pub extern "C" fn nagbiro_what_if(
+    t: &[u8],
+    count: usize,
+    choices: &[u8],
+    sizes: &mut [u32],
+    safe: &mut u16,
+    place: &mut usize,
+) -> u32
+    ensures told { Told (what_if_result (list_call t.now count choices.now (length sizes.old))) result place.old place.new }
+    ensures judges { JudgesList (list_call t.now count choices.now (length sizes.old)) safe.old safe.new }
+    ensures leaves { LeavesListFor t.now choices.now count sizes.old (what_if_result (list_call t.now count choices.now (length sizes.old))) sizes.new }
+{
+    match what_if::what_if(t, count, choices, sizes) {
+        Ok(bits) => {
+            *safe = bits;
             0
         }
         Err(refused) => tell(refused, place),
