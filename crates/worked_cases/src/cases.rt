@@ -1,4 +1,4 @@
-// The calls of document 01, with their answers as text. Each takes where it prints and what the call takes: a value of both would be made for one call.
+// The calls of documents 01 and 02, with their answers as text. Each takes where it prints and what the call takes: a value of both would be made for one call.
 use report::{OLD_SIZE, OLD_VERDICT, Page, kept};
 use sync::words::has;
 use table::check;
@@ -52,6 +52,44 @@ pub fn show_safety(page: &mut Page, t: &[u8], choice: &[u8], sizes: &mut [u32]) 
         Ok(safe) => {
             page.text(if safe { "safe\n" } else { "unsafe\n" });
             page.functions(t, sizes);
+        }
+        Err(refused) => page.refused(refused),
+    }
+    page.text("  kept");
+    page.number(kept(sizes, &OLD_SIZE));
+    page.end();
+}
+
+// The sizes of functions, of so many choices one after another.
+fn print_sets(page: &mut Page, t: &[u8], number: usize, sizes: &[u32]) {
+    let Ok(of) = check(t) else {
+        return;
+    };
+    let entries = of.functions.saturating_add(of.nodes).saturating_mul(4);
+    let mut rest = sizes;
+    for _ in 0..number {
+        page.functions(t, rest);
+        rest = rest.get(entries..).unwrap_or(&[]);
+    }
+}
+
+// Which choices of a list are safe, the sizes of functions for each, and how much of its buffer the call left. The first byte is the number of
+// choices, and those behind it are the list.
+pub fn show_list(page: &mut Page, t: &[u8], bytes: &[u8], sizes: &mut [u32]) {
+    let Some((number, list)) = bytes.split_first() else {
+        return;
+    };
+    let number = usize::from(*number);
+    match what_if::what_if(t, number, list, sizes) {
+        Ok(bits) => {
+            page.text("safe");
+            for i in 0..16usize {
+                if (bits >> i) & 1 == 1 {
+                    page.number(i);
+                }
+            }
+            page.end();
+            print_sets(page, t, number, sizes);
         }
         Err(refused) => page.refused(refused),
     }

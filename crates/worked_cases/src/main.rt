@@ -1,12 +1,12 @@
 // Makes the calls that a script asks for, as `script` reads it, and prints what they answer: on tables and choices whose
-// outcomes were worked out from document 01, and for the work that calls take.
+// outcomes were worked out from documents 01 and 02, and for the work that calls take.
 #![tactic(auto)]
 
 mod cases;
 mod counts;
 mod names;
 
-use cases::{show_best, show_safety, show_sizes, show_sync};
+use cases::{show_best, show_list, show_safety, show_sizes, show_sync};
 use counts::{show_passes, show_trials};
 use names::Call;
 use report::{OLD_SIZE, OLD_VERDICT, Page};
@@ -25,6 +25,7 @@ fn show_call(page: &mut Page, call: Call, t: &[u8], run: &Run<'_>) {
         Call::Sync => show_sync(page, t),
         Call::Sizes => show_sizes(page, t, choice, sizes),
         Call::Safety => show_safety(page, t, choice, sizes),
+        Call::List => show_list(page, t, choice, sizes),
         Call::Best => {
             let mut verdicts = [OLD_VERDICT; 600];
             show_best(page, t, &mut verdicts[..choice.len().min(600)], sizes);

@@ -1,23 +1,25 @@
 // The names of the calls in a script.
 
-// The calls of document 01, and the two that count their work.
+// The calls of documents 01 and 02, and the two that count their work.
 #[derive(Clone, Copy)]
 pub enum Call {
     Table,
     Sync,
     Sizes,
     Safety,
+    List,
     Best,
     Passes,
     Trials,
 }
 
 impl Call {
-    const ALL: [Call; 7] = [
+    const ALL: [Call; 8] = [
         Call::Table,
         Call::Sync,
         Call::Sizes,
         Call::Safety,
+        Call::List,
         Call::Best,
         Call::Passes,
         Call::Trials,
@@ -29,6 +31,7 @@ impl Call {
             Call::Sync => b"sync",
             Call::Sizes => b"sizes",
             Call::Safety => b"safety",
+            Call::List => b"list",
             Call::Best => b"best",
             Call::Passes => b"passes",
             Call::Trials => b"trials",
