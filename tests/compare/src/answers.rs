@@ -1,19 +1,38 @@
-//! What the four calls answer to an input and leave in what they are lent: by the proved library, and by the second
+//! What the five calls answer to an input and leave in what they are lent: by the proved library, and by the second
 //! implementation.
 
 use crate::input::{Input, BEHIND};
-use nagbiro::{nagbiro_best_choice, nagbiro_check, nagbiro_one_choice, nagbiro_synchronising};
+use crate::list::List;
+use nagbiro::{nagbiro_best_choice, nagbiro_check, nagbiro_one_choice, nagbiro_synchronising, nagbiro_what_if};
 use second::choice::best;
 use second::safety::one_choice;
+use second::sizes::numbers_needed;
 use second::sync::synchronising;
-use second::table::check;
+use second::table::{check, Refusal};
+use second::what_if::what_if;
 
 #[derive(PartialEq, Eq, Clone, Debug)]
 pub struct Answers {
     pub check: (u32, [usize; 3]),
     pub synchronising: (u32, usize, Vec<u64>),
     pub one_choice: (u32, usize, u32, Vec<u32>),
+    pub what_if: (u32, usize, u16, Vec<u32>),
+    pub one_by_one: OneByOne,
     pub best_choice: (u32, usize, Vec<u8>, Vec<u32>),
+}
+
+/// What the call for one choice says of the choices of a list in turn, with room enough: whether each is safe, and its
+/// sizes; or the first refusal, with its place in the list. It is asked of lists that are accepted or refused for a byte.
+pub type OneByOne = Result<Vec<(bool, Vec<u32>)>, Refusal>;
+
+/// How many of the elements of a buffer a call is told.
+fn told<T>(buffer: &[T]) -> usize {
+    buffer.len() - BEHIND
+}
+
+/// Whether the list has a byte for each of so many nodes and each of its choices.
+fn is_whole(list: &List, nodes: usize) -> bool {
+    list.number.checked_mul(nodes) == Some(list.choices.len())
 }
 
 /// The library's.
@@ -26,25 +45,66 @@ pub fn first(input: &Input) -> Answers {
     let mut safe = input.safe;
     let mut verdicts = input.verdicts.clone();
     let mut sizes_2 = input.sizes.clone();
-    let told = |length: usize| length - BEHIND;
     let (choice, nodes) = (input.choice.as_ptr(), input.choice.len());
+    let what_if = first_what_if(input);
     // Each pointer comes from a reference or a vector and goes with a length that the vector has; none overlap.
     unsafe {
         let check = nagbiro_check(table, length, &mut a, &mut b, &mut c);
-        let (to, room) = (words.as_mut_ptr(), told(words.len()));
+        let (to, room) = (words.as_mut_ptr(), told(&words));
         let synchronising = nagbiro_synchronising(table, length, to, room, &mut place_1);
-        let (to, room) = (sizes_1.as_mut_ptr(), told(sizes_1.len()));
+        let (to, room) = (sizes_1.as_mut_ptr(), told(&sizes_1));
         let one = nagbiro_one_choice(table, length, choice, nodes, to, room, &mut safe, &mut place_2);
-        let (to, room) = (sizes_2.as_mut_ptr(), told(sizes_2.len()));
-        let bytes = told(verdicts.len());
+        let (to, room) = (sizes_2.as_mut_ptr(), told(&sizes_2));
+        let bytes = told(&verdicts);
         let best = nagbiro_best_choice(table, length, verdicts.as_mut_ptr(), bytes, to, room, &mut place_3);
         Answers {
             check: (check, [a, b, c]),
             synchronising: (synchronising, place_1, words),
             one_choice: (one, place_2, safe, sizes_1),
+            one_by_one: first_one_by_one(input, what_if.0, [a, b]),
+            what_if,
             best_choice: (best, place_3, verdicts, sizes_2),
         }
     }
+}
+
+fn first_what_if(input: &Input) -> (u32, usize, u16, Vec<u32>) {
+    let (table, list) = (&input.table, &input.list);
+    let (mut place, mut bits, mut sizes) = (input.numbers[3], list.bits, list.sizes.clone());
+    let (choices, bytes) = (list.choices.as_ptr(), list.choices.len());
+    let (to, room) = (sizes.as_mut_ptr(), told(&sizes));
+    // As above.
+    let number = unsafe {
+        nagbiro_what_if(table.as_ptr(), table.len(), list.number, choices, bytes, to, room, &mut bits, &mut place)
+    };
+    (number, place, bits, sizes)
+}
+
+/// The library's for one choice, with room for so many numbers.
+fn alone(table: &[u8], choice: &[u8], needed: usize) -> Result<(bool, Vec<u32>), Refusal> {
+    let (mut sizes, mut safe, mut place) = (vec![0; needed], 0, 0);
+    let (bytes, to) = (choice.as_ptr(), sizes.as_mut_ptr());
+    // As above.
+    let number = unsafe {
+        nagbiro_one_choice(table.as_ptr(), table.len(), bytes, choice.len(), to, needed, &mut safe, &mut place)
+    };
+    if number != 0 {
+        return Err((number, place));
+    }
+    Ok((safe == 1, sizes))
+}
+
+/// The library's for the choices of a list that it answered with a number. The table has so many functions and nodes.
+fn first_one_by_one(input: &Input, number: u32, [functions, nodes]: [usize; 2]) -> OneByOne {
+    if (number != 0 && number != 9) || !is_whole(&input.list, nodes) {
+        return Ok(Vec::new());
+    }
+    let mut all = Vec::new();
+    for (i, choice) in input.list.choices.chunks(nodes).enumerate() {
+        let carried_over = |(number, place)| (number, nodes * i + place);
+        all.push(alone(&input.table, choice, 4 * (functions + nodes)).map_err(carried_over)?);
+    }
+    Ok(all)
 }
 
 /// A buffer with its first elements overwritten, as many as there are.
@@ -62,20 +122,35 @@ pub fn second(input: &Input) -> Answers {
         Ok(p) => (0, [p.functions.len(), p.nodes.len(), p.edges.len()]),
         Err((number, place)) => (*number, [*place, b, c]),
     };
-    let synchronising = match program.map(|p| synchronising(&p)) {
+    let synchronising = match program.as_ref().map(synchronising) {
         Ok(set) => {
-            let room = set.len().min(input.words.len() - BEHIND);
+            let room = set.len().min(told(&input.words));
             (0, old, written(&input.words, &set[..room]))
         }
-        Err((number, place)) => (number, place, input.words.clone()),
+        Err(&(number, place)) => (number, place, input.words.clone()),
     };
-    let one_choice = match one_choice(&input.table, &input.choice, input.sizes.len() - BEHIND) {
+    let one_choice = match one_choice(&input.table, &input.choice, told(&input.sizes)) {
         Ok((safe, sizes)) => (0, old, safe as u32, written(&input.sizes, &sizes)),
         Err((number, place)) => (number, place, input.safe, input.sizes.clone()),
     };
-    let best_choice = match best(&input.table, input.verdicts.len() - BEHIND, input.sizes.len() - BEHIND) {
+    let list = &input.list;
+    let of_list = what_if(&input.table, list.number, &list.choices, told(&list.sizes));
+    // "Each result equals that of the single call for the same choice."
+    let one_by_one = match (&program, &of_list) {
+        (Ok(p), Ok((bits, sizes))) => {
+            let sets = sizes.chunks(numbers_needed(p)).enumerate();
+            Ok(sets.map(|(i, set)| (bits >> i & 1 == 1, set.to_vec())).collect())
+        }
+        (Ok(p), &Err((9, place))) if is_whole(list, p.nodes.len()) => Err((9, place)),
+        _ => Ok(Vec::new()),
+    };
+    let what_if = match of_list {
+        Ok((bits, sizes)) => (0, old, bits, written(&list.sizes, &sizes)),
+        Err((number, place)) => (number, place, list.bits, list.sizes.clone()),
+    };
+    let best_choice = match best(&input.table, told(&input.verdicts), told(&input.sizes)) {
         Ok((choice, sizes)) => (0, old, written(&input.verdicts, &choice), written(&input.sizes, &sizes)),
         Err((number, place)) => (number, place, input.verdicts.clone(), input.sizes.clone()),
     };
-    Answers { check, synchronising, one_choice, best_choice }
+    Answers { check, synchronising, one_choice, what_if, one_by_one, best_choice }
 }

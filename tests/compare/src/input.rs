@@ -1,9 +1,10 @@
-//! One input: a table, a choice and lent buffers, made from a seed and a number.
+//! One input: a table, a choice, a list of choices and lent buffers, made from a seed and a number.
 
+use crate::list::{list, List};
 use crate::refused::{calls, count, field, records, refused, set_field, Records};
 use second::random::{self, record, Frames, Random, Shape, FULL};
 use second::sizes::numbers_needed;
-use second::table::{check, Program, Sort};
+use second::table::{check, Node, Program, Sort};
 
 /// How many elements stand behind the length that a call is told. Nothing may be written there.
 pub const BEHIND: usize = 4;
@@ -19,6 +20,7 @@ pub struct Input {
     /// What stands in a, b, c and the place before the calls, and in `safe`.
     pub numbers: [usize; 4],
     pub safe: u32,
+    pub list: List,
 }
 
 #[derive(Clone, Copy, PartialEq, Eq, Debug)]
@@ -275,15 +277,21 @@ fn table(random: &mut Random, kind: Kind) -> Vec<u8> {
     table
 }
 
-/// A choice for the table, seldom one that is refused.
-fn choice(random: &mut Random, program: Option<&Program>) -> Vec<u8> {
+/// A choice for nodes of a table.
+pub fn choice_of(random: &mut Random, nodes: &[Node]) -> Vec<u8> {
     let mut choice = Vec::new();
     // Mostly merged, half of the time.
     let least = random.below(2);
-    for node in program.map_or(&[][..], |p| &p.nodes) {
+    for node in nodes {
         let byte = if random.once_in(4) { random.below(3) } else { least + random.below(3 - least) };
         choice.push(if node.sort == Sort::Spawn { 1 + byte as u8 } else { 0 });
     }
+    choice
+}
+
+/// A choice for the table, seldom one that is refused.
+fn choice(random: &mut Random, program: Option<&Program>) -> Vec<u8> {
+    let mut choice = choice_of(random, program.map_or(&[][..], |p| &p.nodes));
     if random.once_in(16) {
         choice.push(0);
     }
@@ -302,7 +310,7 @@ fn choice(random: &mut Random, program: Option<&Program>) -> Vec<u8> {
 }
 
 /// A length of a buffer: mostly enough.
-fn length(random: &mut Random, needed: usize) -> usize {
+pub fn length(random: &mut Random, needed: usize) -> usize {
     match random.below(16) {
         0 => random.below(needed + 1),
         1 => needed.saturating_sub(1),
@@ -335,6 +343,7 @@ pub fn input(seed: u64, number: u64) -> Input {
         sizes: (0..sizes).map(|_| random.next() as u32).collect(),
         numbers: [0; 4].map(|_| random.next() as usize),
         safe: random.next() as u32,
+        list: list(&mut random, program.as_ref()),
     }
 }
 

@@ -1,11 +1,12 @@
-//! Compares the proved library with the second implementation on random tables, choices and buffers. Prints how many
-//! inputs of each kind were compared and what came up in them, or the first difference, and then ends with status 1.
-//! Options: `--count N`, `--seed S`, `--from N`, the number of the first input, and `--threads N`, which changes nothing
-//! but the time. With the usual count or more, it also ends with status 1 if something came up too seldom, which
-//! `tally.rs` says; with fewer inputs nothing is demanded of them.
+//! Compares the proved library with the second implementation on random tables, choices, lists of choices and buffers.
+//! Prints how many inputs of each kind were compared and what came up in them, or the first difference, and then ends
+//! with status 1. Options: `--count N`, `--seed S`, `--from N`, the number of the first input, and `--threads N`, which
+//! changes nothing but the time. With the usual count or more, it also ends with status 1 if something came up too
+//! seldom, which `tally.rs` says; with fewer inputs nothing is demanded of them.
 
 mod answers;
 mod input;
+mod list;
 mod refused;
 mod run;
 mod tally;
@@ -61,6 +62,8 @@ fn difference(x: &Answers, y: &Answers) -> Option<String> {
     differs("check: number; a, b, c", &x.check, &y.check)
         .or_else(|| differs("synchronising: number, place; words", &x.synchronising, &y.synchronising))
         .or_else(|| differs("one choice: number, place; safe; sizes", &x.one_choice, &y.one_choice))
+        .or_else(|| differs("what if: number, place; bits; sizes", &x.what_if, &y.what_if))
+        .or_else(|| differs("what if, and each choice alone", &x.one_by_one, &y.one_by_one))
         .or_else(|| differs("best choice: number, place; verdicts; sizes", &x.best_choice, &y.best_choice))
 }
 
@@ -76,6 +79,8 @@ fn report(seed: u64, number: u64) {
     println!("  choice: {}", hex(&input.choice));
     let (words, verdicts, sizes) = (input.words.len(), input.verdicts.len(), input.sizes.len());
     println!("  lengths: words {}, verdicts {}, sizes {}", words - BEHIND, verdicts - BEHIND, sizes - BEHIND);
+    let (list, room) = (&input.list, input.list.sizes.len() - BEHIND);
+    println!("  list, told {} choices and {room} sizes: {}", list.number, hex(&list.choices));
 }
 
 fn main() {
@@ -119,8 +124,15 @@ mod tests {
             4 => x.one_choice.0 += 1,
             5 => x.one_choice.2 ^= 1,
             6 => *x.one_choice.3.last_mut().expect("a number") ^= 1,
-            7 => x.best_choice.1 ^= 1,
-            8 => x.best_choice.2[0] ^= 1,
+            7 => x.what_if.1 ^= 1,
+            8 => x.what_if.2 ^= 1 << 15,
+            9 => *x.what_if.3.last_mut().expect("a number") ^= 1,
+            10 => match &mut x.one_by_one {
+                Ok(all) => all.push((true, Vec::new())),
+                Err((_, place)) => *place ^= 1,
+            },
+            11 => x.best_choice.1 ^= 1,
+            12 => x.best_choice.2[0] ^= 1,
             _ => x.best_choice.3[0] ^= 1,
         }
         x
@@ -131,7 +143,7 @@ mod tests {
         for number in 0..300 {
             let found = first(&input(1, number));
             assert_eq!(difference(&found, &found), None);
-            for which in 0..10 {
+            for which in 0..14 {
                 assert!(difference(&found, &wrong(&found, which)).is_some());
             }
         }
@@ -142,6 +154,7 @@ mod tests {
         for number in 0..100 {
             let (x, y) = (input(7, number), input(7, number));
             assert!(x.table == y.table && x.choice == y.choice && x.sizes == y.sizes);
+            assert!(x.list.choices == y.list.choices && x.list.sizes == y.list.sizes);
             assert!(x.table != input(8, number).table);
         }
     }

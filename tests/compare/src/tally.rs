@@ -1,11 +1,13 @@
 //! What came up in the inputs, and how often it has to.
 
 use crate::answers::Answers;
-use crate::input::{Input, KINDS};
+use crate::input::{Input, BEHIND, KINDS};
+use crate::list::{List, MOST};
 use second::choice::depths;
+use second::sizes::numbers_needed;
 use second::table::{check, Program, Sort};
 
-const CALLS: [&str; 4] = ["check", "synchronising", "one choice", "best choice"];
+const CALLS: [&str; 5] = ["check", "synchronising", "one choice", "what if", "best choice"];
 
 /// What is counted beside kinds and refusals.
 #[derive(Clone, Copy, PartialEq, Eq, Debug)]
@@ -27,10 +29,24 @@ enum Seen {
     OneNodeMore,
     OneEdgeMore,
     LastNode,
+    NoChoice,
+    OneChoice,
+    MostChoices,
+    OneChoiceMore,
+    HugeNumber,
+    Wrapping,
+    MixedList,
+    OneWrong,
+    WrongLater,
+    ByteMissing,
+    ByteMore,
+    SetsShort,
+    SetsExact,
+    SetsLonger,
 }
 
 /// The least number of each in `COUNT` inputs.
-const SEEN: [(Seen, &str, u64); 17] = [
+const SEEN: [(Seen, &str, u64); 31] = [
     (Seen::Safe, "choices found safe", 60_000),
     (Seen::Unsafe, "choices found unsafe", 30_000),
     (Seen::WrongBytes, "choices with more than one wrong byte", 10_000),
@@ -48,6 +64,20 @@ const SEEN: [(Seen, &str, u64); 17] = [
     (Seen::OneNodeMore, "tables refused for a 513th node", 1_000),
     (Seen::OneEdgeMore, "tables refused for a 1,025th edge", 1_000),
     (Seen::LastNode, "spawns in node 511 merged by a best choice", 100),
+    (Seen::NoChoice, "lists refused for no choice", 6_000),
+    (Seen::OneChoice, "accepted lists of one choice", 20_000),
+    (Seen::MostChoices, "accepted lists of 16 choices", 2_000),
+    (Seen::OneChoiceMore, "lists refused for a 17th choice", 6_000),
+    (Seen::HugeNumber, "lists refused for 2^40 choices or more", 6_000),
+    (Seen::Wrapping, "lists as long as such a number would ask for in 64 bits", 300),
+    (Seen::MixedList, "accepted lists with safe and unsafe choices", 6_000),
+    (Seen::OneWrong, "lists with one wrong byte", 8_000),
+    (Seen::WrongLater, "lists with the first wrong byte behind the first choice", 5_000),
+    (Seen::ByteMissing, "lists one byte short", 4_000),
+    (Seen::ByteMore, "lists one byte too long", 4_000),
+    (Seen::SetsShort, "lists refused for sizes one number short", 5_000),
+    (Seen::SetsExact, "accepted lists with just room for their sizes", 30_000),
+    (Seen::SetsLonger, "accepted lists with more room than for their sizes", 30_000),
 ];
 
 /// The least number of inputs of a kind, and of each refusal of each call.
@@ -58,25 +88,26 @@ const LEAST_REFUSALS: u64 = 1_500;
 pub struct Tally {
     kinds: [u64; KINDS.len()],
     /// How often each number was returned by each of the calls.
-    numbers: [[u64; 12]; CALLS.len()],
+    numbers: [[u64; 13]; CALLS.len()],
     seen: [u64; SEEN.len()],
 }
 
 /// The refusals of a call.
 fn refusals(call: usize) -> impl Iterator<Item = usize> {
-    (1..=11).filter(move |&number| match number {
-        9 => call == 2,
-        10 => call == 3,
+    (1..=12).filter(move |&number| match number {
+        9 => call == 2 || call == 3,
+        10 => call == 4,
         11 => call >= 2,
+        12 => call == 3,
         _ => true,
     })
 }
 
-/// Whether the choice is as long as it should be, and wrong in two nodes or more.
-fn wrong_bytes(program: &Program, choice: &[u8]) -> bool {
-    let spawns = program.nodes.iter().map(|node| node.sort == Sort::Spawn);
-    let wrong = spawns.zip(choice).filter(|&(spawn, &byte)| (1..=3).contains(&byte) != spawn || byte > 3);
-    choice.len() == program.nodes.len() && wrong.count() > 1
+/// The places of the wrong bytes of a choice, or of choices one after another.
+fn wrong_bytes(program: &Program, choices: &[u8]) -> Vec<usize> {
+    let spawns = program.nodes.iter().map(|node| node.sort == Sort::Spawn).cycle();
+    let bytes = spawns.zip(choices).enumerate();
+    bytes.filter(|&(_, (spawn, &byte))| (1..=3).contains(&byte) != spawn || byte > 3).map(|(place, _)| place).collect()
 }
 
 impl Tally {
@@ -86,7 +117,8 @@ impl Tally {
 
     pub fn add(&mut self, input: &Input, answers: &Answers) {
         self.kinds[input.kind as usize] += 1;
-        let numbers = [answers.check.0, answers.synchronising.0, answers.one_choice.0, answers.best_choice.0];
+        let (list, best) = (answers.what_if.0, answers.best_choice.0);
+        let numbers = [answers.check.0, answers.synchronising.0, answers.one_choice.0, list, best];
         for (call, number) in numbers.into_iter().enumerate() {
             self.numbers[call][number as usize] += 1;
         }
@@ -112,9 +144,44 @@ impl Tally {
         if answers.one_choice.0 == 0 {
             self.see(if answers.one_choice.2 == 1 { Seen::Safe } else { Seen::Unsafe }, 1);
         }
-        self.see(Seen::WrongBytes, wrong_bytes(program, &input.choice) as usize);
+        let whole = input.choice.len() == program.nodes.len();
+        self.see(Seen::WrongBytes, (whole && wrong_bytes(program, &input.choice).len() > 1) as usize);
+        self.add_list(program, &input.list, answers);
         if answers.best_choice.0 == 0 {
             self.add_best(&spawns, &answers.best_choice.2);
+        }
+    }
+
+    fn add_list(&mut self, program: &Program, list: &List, answers: &Answers) {
+        let (nodes, bytes) = (program.nodes.len(), list.choices.len());
+        match answers.what_if.0 {
+            0 => {
+                let safe = answers.what_if.2.count_ones() as usize;
+                self.see(Seen::OneChoice, (list.number == 1) as usize);
+                self.see(Seen::MostChoices, (list.number == MOST) as usize);
+                self.see(Seen::MixedList, (safe > 0 && safe < list.number) as usize);
+                let room = list.sizes.len() - BEHIND;
+                let is_exact = room == list.number * numbers_needed(program);
+                self.see(if is_exact { Seen::SetsExact } else { Seen::SetsLonger }, 1);
+            }
+            9 if bytes == nodes * list.number => {
+                let wrong = wrong_bytes(program, &list.choices);
+                self.see(Seen::OneWrong, (wrong.len() == 1) as usize);
+                self.see(Seen::WrongLater, (wrong[0] >= nodes) as usize);
+            }
+            9 => {
+                self.see(Seen::ByteMissing, (bytes + 1 == nodes * list.number) as usize);
+                self.see(Seen::ByteMore, (bytes == nodes * list.number + 1) as usize);
+            }
+            11 => self.see(Seen::SetsShort, (list.sizes.len() - BEHIND + 1 == answers.what_if.1) as usize),
+            12 => {
+                self.see(Seen::NoChoice, (list.number == 0) as usize);
+                self.see(Seen::OneChoiceMore, (list.number == MOST + 1) as usize);
+                self.see(Seen::HugeNumber, (list.number >= 1 << 40) as usize);
+                let wraps = list.number >= 1 << 40 && list.number.wrapping_mul(nodes) == bytes;
+                self.see(Seen::Wrapping, wraps as usize);
+            }
+            _ => {}
         }
     }
 
@@ -138,7 +205,7 @@ impl Tally {
         let kinds: Vec<String> = KINDS.iter().zip(self.kinds).map(|((k, _), count)| format!("{count} {k:?}")).collect();
         println!("  {}", kinds.join(", "));
         for (call, numbers) in CALLS.iter().zip(self.numbers) {
-            println!("  {call}: answers by number, 0 to 11: {numbers:?}");
+            println!("  {call}: answers by number, 0 to 12: {numbers:?}");
         }
         for ((_, what, _), count) in SEEN.iter().zip(self.seen) {
             println!("  {what}: {count}");
@@ -170,7 +237,7 @@ mod tests {
 
     /// A tally in which everything came up just as often as it has to.
     fn enough() -> Tally {
-        let numbers = [[LEAST_REFUSALS; 12]; CALLS.len()];
+        let numbers = [[LEAST_REFUSALS; 13]; CALLS.len()];
         Tally { kinds: [LEAST_OF_A_KIND; KINDS.len()], numbers, seen: SEEN.map(|(_, _, least)| least) }
     }
 
@@ -188,7 +255,7 @@ mod tests {
             assert_eq!(tally.seldom().len(), 1);
         }
         for call in 0..CALLS.len() {
-            for number in 0..12 {
+            for number in 0..13 {
                 let mut tally = enough();
                 tally.numbers[call][number] -= 1;
                 assert_eq!(tally.seldom().len(), refusals(call).filter(|&n| n == number).count());
@@ -201,14 +268,16 @@ mod tests {
         }
     }
 
-    /// "9 arises where a choice is handed in, 10 in the best-choice call, 11 where sizes are written."
+    /// "9 arises where a choice is handed in, 10 in the best-choice call, 11 where sizes are written", and 12 where a
+    /// list of choices is handed in.
     #[test]
     fn the_refusals_of_each_call() {
-        let all: Vec<Vec<usize>> = (0..4).map(|call| refusals(call).collect()).collect();
+        let all: Vec<Vec<usize>> = (0..CALLS.len()).map(|call| refusals(call).collect()).collect();
         assert_eq!(all[0], [1, 2, 3, 4, 5, 6, 7, 8]);
         assert_eq!(all[1], [1, 2, 3, 4, 5, 6, 7, 8]);
         assert_eq!(all[2], [1, 2, 3, 4, 5, 6, 7, 8, 9, 11]);
-        assert_eq!(all[3], [1, 2, 3, 4, 5, 6, 7, 8, 10, 11]);
+        assert_eq!(all[3], [1, 2, 3, 4, 5, 6, 7, 8, 9, 11, 12]);
+        assert_eq!(all[4], [1, 2, 3, 4, 5, 6, 7, 8, 10, 11]);
     }
 
     #[test]
@@ -216,7 +285,7 @@ mod tests {
         let mut tally = enough();
         tally.join(&enough());
         assert_eq!(tally.kinds, [2 * LEAST_OF_A_KIND; KINDS.len()]);
-        assert_eq!(tally.numbers, [[2 * LEAST_REFUSALS; 12]; CALLS.len()]);
+        assert_eq!(tally.numbers, [[2 * LEAST_REFUSALS; 13]; CALLS.len()]);
         assert_eq!(tally.seen, SEEN.map(|(_, _, least)| 2 * least));
     }
 }

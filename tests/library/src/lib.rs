@@ -19,6 +19,17 @@ extern "C" {
         safe: *mut u32,
         place: *mut usize,
     ) -> u32;
+    pub fn nagbiro_what_if(
+        table: *const u8,
+        table_length: usize,
+        count: usize,
+        choices: *const u8,
+        choices_length: usize,
+        sizes: *mut u32,
+        sizes_length: usize,
+        safe: *mut u16,
+        place: *mut usize,
+    ) -> u32;
     pub fn nagbiro_best_choice(
         table: *const u8,
         table_length: usize,

@@ -1,5 +1,5 @@
-//! A second implementation of document 01, to compare the first with. It is plain and slow, follows the order and the
-//! words of that document, and quotes the sentence that each piece stands for.
+//! A second implementation of document 01, and of what document 02 has changed so far, to compare the first with. It is
+//! plain and slow, follows the order and the words of both, and quotes the sentence that each piece stands for.
 
 pub mod choice;
 pub mod listing;
@@ -8,3 +8,4 @@ pub mod safety;
 pub mod sizes;
 pub mod sync;
 pub mod table;
+pub mod what_if;

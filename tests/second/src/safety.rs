@@ -40,7 +40,7 @@ pub fn safe_choice(program: &Program, set: &Set, choice: &[u8]) -> bool {
 }
 
 /// "A choice gives one byte for each node: 0 if it is no spawn; else 1 unmerged, 2 merged guarded, 3 merged unguarded."
-fn listed(sort: Sort, byte: u8) -> bool {
+pub fn listed(sort: Sort, byte: u8) -> bool {
     if sort == Sort::Spawn {
         return byte == 1 || byte == 2 || byte == 3;
     }
