@@ -32,8 +32,11 @@ extern "C" {
 #define NAGBIRO_NODES 512
 #define NAGBIRO_EDGES 1024
 
-/* A sizes buffer of this many numbers is long enough for every table. */
+/* A sizes buffer of this many numbers is long enough for one choice of every table. */
 #define NAGBIRO_SIZES (4 * (NAGBIRO_FUNCTIONS + NAGBIRO_NODES))
+
+/* The most choices that one call takes. Their sizes are at most so many times NAGBIRO_SIZES numbers. */
+#define NAGBIRO_CHOICES 16
 
 /* How many words a synchronising set has. */
 #define NAGBIRO_WORDS 8
@@ -84,10 +87,27 @@ uint32_t nagbiro_one_choice(const uint8_t *table, size_t table_length,
                             uint32_t *sizes, size_t sizes_length, uint32_t *safe, size_t *place);
 
 /*
+ * Judges up to NAGBIRO_CHOICES choices of one table: says of each whether it is safe, and gives its
+ * sizes, just as the call for one choice does. The table is read and checked once.
+ * Reads: table; choices, as many as count says, one after another, each one byte for each node.
+ * Returns 0, and writes a number to safe: bit i of it, bit 0 the lowest, is 1 for a safe choice i
+ * and 0 for an unsafe one, and the bits from count on are 0. In both cases it writes the sizes of
+ * choice i to sizes, from 4 * (functions + nodes) * i on. Numbers past the last set of sizes, and
+ * place, are kept.
+ * Else returns the refusal, 1 to 9, 11 or 12, and writes its place to place; sizes and safe are
+ * kept. 12 is looked at before 9 and 11, and its place is count.
+ * Needs: NAGBIRO_WHAT_IF_STACK bytes of stack.
+ */
+#define NAGBIRO_WHAT_IF_STACK (304 * 1024)
+uint32_t nagbiro_what_if(const uint8_t *table, size_t table_length,
+                         size_t count, const uint8_t *choices, size_t choices_length,
+                         uint32_t *sizes, size_t sizes_length, uint16_t *safe, size_t *place);
+
+/*
  * Finds the best choice of a table, and gives its sizes.
  * Reads: table.
  * Returns 0, and writes the choice to verdicts, one byte for each node, and its sizes to sizes,
- * as above. What stands in either past them, and place, is kept.
+ * as for one choice. What stands in either past them, and place, is kept.
  * Else returns the refusal, 1 to 8, 10 or 11, and writes its place to place; verdicts and sizes
  * are kept. The place of 10 and 11 is the length that is needed.
  * Needs: NAGBIRO_BEST_CHOICE_STACK bytes of stack.

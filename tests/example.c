@@ -27,15 +27,26 @@ static const uint8_t table[] = {
 
 static const uint8_t guarded[] = {0, 2, 0, 2, 0, 0, 0};
 
+/* Both unmerged, both guarded, and the first one unguarded alone. */
+static const uint8_t choices[] = {
+    0, 1, 0, 1, 0, 0, 0,
+    0, 2, 0, 2, 0, 0, 0,
+    0, 3, 0, 1, 0, 0, 0,
+};
+
 static uint64_t words[NAGBIRO_WORDS];
 static uint8_t verdicts[NAGBIRO_NODES];
-static uint32_t sizes[NAGBIRO_SIZES];
+static uint32_t sizes[3 * NAGBIRO_SIZES];
+
+static void print_function(size_t f, const uint32_t *of)
+{
+    printf("F %zu %" PRIu32 " %" PRIu32 " %" PRIu32 " %" PRIu32 "\n", f, of[0], of[1], of[2], of[3]);
+}
 
 static void print_functions(size_t functions)
 {
     for (size_t f = 0; f < functions; f++)
-        printf("F %zu %" PRIu32 " %" PRIu32 " %" PRIu32 " %" PRIu32 "\n", f,
-               sizes[4 * f], sizes[4 * f + 1], sizes[4 * f + 2], sizes[4 * f + 3]);
+        print_function(f, sizes + 4 * f);
 }
 
 static int refused(uint32_t number, size_t place)
@@ -48,6 +59,7 @@ int main(void)
 {
     size_t functions = 0, nodes = 0, edges = 0, place = 0;
     uint32_t safe = 0, number;
+    uint16_t bits = 0;
 
     number = nagbiro_check(table, sizeof table, &functions, &nodes, &edges);
     if (number != 0)
@@ -65,6 +77,14 @@ int main(void)
     printf("both guarded: %s\n", safe ? "safe" : "unsafe");
     print_functions(functions);
 
+    /* Each set has four sizes for each function and then for each node. */
+    number = nagbiro_what_if(table, sizeof table, 3, choices, sizeof choices, sizes, 3 * NAGBIRO_SIZES, &bits, &place);
+    if (number != 0)
+        return refused(number, place);
+    printf("safe of three: %x\n", (unsigned)bits);
+    for (size_t i = 0; i < 3; i++)
+        print_function(0, sizes + 4 * (functions + nodes) * i);
+
     number = nagbiro_best_choice(table, sizeof table, verdicts, NAGBIRO_NODES, sizes, NAGBIRO_SIZES, &place);
     if (number != 0)
         return refused(number, place);
@@ -76,6 +96,14 @@ int main(void)
 
     /* Too short by one: the place is the length that is needed. */
     number = nagbiro_best_choice(table, sizeof table, verdicts, nodes - 1, sizes, NAGBIRO_SIZES, &place);
+    refused(number, place);
+
+    /* A list one byte short: the place is the length that it has to have. Then one choice more than a call takes. */
+    number = nagbiro_what_if(table, sizeof table, 3, choices, sizeof choices - 1,
+                             sizes, 3 * NAGBIRO_SIZES, &bits, &place);
+    refused(number, place);
+    number = nagbiro_what_if(table, sizeof table, NAGBIRO_CHOICES + 1, choices, sizeof choices,
+                             sizes, 3 * NAGBIRO_SIZES, &bits, &place);
     refused(number, place);
     return 0;
 }

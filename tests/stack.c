@@ -37,7 +37,8 @@ static struct table case_a = {.name = "case A"}, full_size = {.name = "full size
 
 static uint64_t words[NAGBIRO_WORDS];
 static uint8_t verdicts[NAGBIRO_NODES];
-static uint32_t sizes[NAGBIRO_SIZES];
+static uint8_t choices[NAGBIRO_CHOICES * NAGBIRO_NODES];
+static uint32_t sizes[NAGBIRO_CHOICES * NAGBIRO_SIZES];
 
 static void put(struct table *table, int kind, int sort, int a, int b, int c)
 {
@@ -109,6 +110,18 @@ static uint32_t one_choice(const struct table *table)
                               sizes, NAGBIRO_SIZES, &safe, &place);
 }
 
+/* As many choices as a call takes. */
+static uint32_t what_if(const struct table *table)
+{
+    size_t place = 0;
+    uint16_t safe = 0;
+
+    for (size_t i = 0; i < NAGBIRO_CHOICES; i++)
+        memcpy(choices + table->nodes * i, table->choice, table->nodes);
+    return nagbiro_what_if(table->bytes, table->length, NAGBIRO_CHOICES, choices, table->nodes * NAGBIRO_CHOICES,
+                           sizes, NAGBIRO_CHOICES * NAGBIRO_SIZES, &safe, &place);
+}
+
 static uint32_t best_choice(const struct table *table)
 {
     size_t place = 0;
@@ -127,6 +140,7 @@ static const struct call calls[] = {
     {"nagbiro_check", NAGBIRO_CHECK_STACK, check},
     {"nagbiro_synchronising", NAGBIRO_SYNCHRONISING_STACK, synchronising},
     {"nagbiro_one_choice", NAGBIRO_ONE_CHOICE_STACK, one_choice},
+    {"nagbiro_what_if", NAGBIRO_WHAT_IF_STACK, what_if},
     {"nagbiro_best_choice", NAGBIRO_BEST_CHOICE_STACK, best_choice},
 };
 
