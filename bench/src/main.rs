@@ -1,9 +1,12 @@
 //! Measures the best-choice call and the call for one choice against the second implementation, in one run. Of a ratio above 1 the
-//! proved library is the faster one. The choice of the second call is the best one.
+//! proved library is the faster one. The choice of the second call is the best one. Then measures the call for a list of choices
+//! against a call for each of them: of a ratio above 1 the list is the faster one.
 
 mod tables;
 
-use nagbiro::{nagbiro_best_choice, nagbiro_one_choice};
+use nagbiro::{nagbiro_best_choice, nagbiro_one_choice, nagbiro_what_if};
+use second::random::Random;
+use second::table::Sort;
 use std::time::{Duration, Instant};
 
 extern "C" {
@@ -15,7 +18,20 @@ extern "C" {
         choice_length: usize,
         passes: *mut u32,
     ) -> u32;
+    fn nagbiro_list_effort(
+        table: *const u8,
+        table_length: usize,
+        count: usize,
+        choices: *const u8,
+        choices_length: usize,
+        sizes: *mut u32,
+        sizes_length: usize,
+        passes: *mut u32,
+    ) -> u32;
 }
+
+// As many choices as a call takes.
+const LIST: usize = 16;
 
 // The calls, with buffers that are lent again and again.
 fn best(table: &[u8], verdicts: &mut [u8], sizes: &mut [u32]) {
@@ -36,14 +52,43 @@ fn one(table: &[u8], choice: &[u8], sizes: &mut [u32]) -> bool {
     safe == 1
 }
 
-// The trials and passes of the best-choice call, and the passes of the call for one choice.
-fn effort(table: &[u8], choice: &[u8]) -> (u32, u32, u32) {
-    let (mut trials, mut passes, mut alone) = (0, 0, 0);
-    unsafe {
-        nagbiro_best_effort(table.as_ptr(), table.len(), &mut trials, &mut passes);
-        nagbiro_one_effort(table.as_ptr(), table.len(), choice.as_ptr(), choice.len(), &mut alone);
-    }
-    (trials, passes, alone)
+fn list(table: &[u8], choices: &[u8], sizes: &mut [u32]) -> u16 {
+    let (c, s) = (choices.as_ptr(), sizes.as_mut_ptr());
+    let (mut safe, mut place) = (0, 0);
+    let number = unsafe {
+        nagbiro_what_if(table.as_ptr(), table.len(), LIST, c, choices.len(), s, sizes.len(), &mut safe, &mut place)
+    };
+    assert_eq!(number, 0, "refused {number} at {place}");
+    safe
+}
+
+// The same by a call for each choice.
+fn one_by_one(table: &[u8], choices: &[u8], sizes: &mut [u32]) -> u16 {
+    let (choice, set) = (choices.len() / LIST, sizes.len() / LIST);
+    let calls = choices.chunks(choice).zip(sizes.chunks_mut(set)).enumerate();
+    calls.map(|(i, (choice, sizes))| u16::from(one(table, choice, sizes)) << i).sum()
+}
+
+// The trials and passes of the best-choice call.
+fn best_effort(table: &[u8]) -> (u32, u32) {
+    let (mut trials, mut passes) = (0, 0);
+    unsafe { nagbiro_best_effort(table.as_ptr(), table.len(), &mut trials, &mut passes) };
+    (trials, passes)
+}
+
+// The passes of the call for one choice.
+fn one_effort(table: &[u8], choice: &[u8]) -> u32 {
+    let mut passes = 0;
+    unsafe { nagbiro_one_effort(table.as_ptr(), table.len(), choice.as_ptr(), choice.len(), &mut passes) };
+    passes
+}
+
+// The passes of the call for a list.
+fn list_effort(table: &[u8], choices: &[u8], sizes: &mut [u32]) -> u32 {
+    let (c, s) = (choices.as_ptr(), sizes.as_mut_ptr());
+    let mut passes = 0;
+    unsafe { nagbiro_list_effort(table.as_ptr(), table.len(), LIST, c, choices.len(), s, sizes.len(), &mut passes) };
+    passes
 }
 
 // What a call gives, and its time in milliseconds, from as many calls as fit into a third of a second.
@@ -63,6 +108,30 @@ fn rounds(table: &[u8], choice: &[u8]) -> u64 {
     second::sizes::least(&program, &set, choice).rounds
 }
 
+// Random choices of a table, one after another, and how many sizes they have.
+fn random_choices(table: &[u8]) -> (Vec<u8>, usize) {
+    let program = second::table::check(table).expect("an accepted table");
+    let mut random = Random::new(7);
+    let nodes = program.nodes.iter().cycle().take(LIST * program.nodes.len());
+    let choices = nodes.map(|node| if node.sort == Sort::Spawn { 1 + random.below(3) as u8 } else { 0 }).collect();
+    (choices, LIST * second::sizes::numbers_needed(&program))
+}
+
+fn measure_list(table: &tables::Table) {
+    let (choices, room) = random_choices(&table.bytes);
+    let (mut sizes, mut sizes_alone) = (vec![0; room], vec![0; room]);
+    let (safe, ours) = time(|| list(&table.bytes, &choices, &mut sizes));
+    let (safe_alone, alone) = time(|| one_by_one(&table.bytes, &choices, &mut sizes_alone));
+    assert!(safe == safe_alone && sizes == sizes_alone, "{}: they differ", table.name);
+    let passes = list_effort(&table.bytes, &choices, &mut sizes);
+    let passes_alone: u32 = choices.chunks(choices.len() / LIST).map(|choice| one_effort(&table.bytes, choice)).sum();
+    println!(
+        "| {}, {LIST} random choices | {ours:.3} | {alone:.3} | {:.2} | {passes} | {passes_alone} |",
+        table.name,
+        alone / ours
+    );
+}
+
 fn main() {
     println!("| Table | Best choice, ms | Ratio | Trials | Passes | One choice, ms | Ratio | Passes | Rounds of the second |");
     println!("|---|---|---|---|---|---|---|---|---|");
@@ -75,7 +144,7 @@ fn main() {
         assert!(verdicts[..choice.len()] == choice && written[..sizes.len()] == sizes, "{}: they differ", table.name);
         let (_, our_one) = time(|| one(bytes, &choice, &mut written));
         let (_, their_one) = time(|| second::safety::one_choice(bytes, &choice, 2304));
-        let (trials, passes, alone) = effort(bytes, &choice);
+        let ((trials, passes), alone) = (best_effort(bytes), one_effort(bytes, &choice));
         println!(
             "| {} | {ours:.3} | {:.2} | {trials} | {passes} | {our_one:.3} | {:.2} | {alone} | {} |",
             table.name,
@@ -84,4 +153,8 @@ fn main() {
             rounds(bytes, &choice),
         );
     }
+    println!();
+    println!("| List of choices | One call, ms | A call for each, ms | Ratio | Passes | Passes of a call for each |");
+    println!("|---|---|---|---|---|---|");
+    measure_list(&tables::full_size("full size, recursion", true));
 }

@@ -64,7 +64,7 @@ fn instruction(random: &mut Random, function: usize, recursion: bool) -> (u8, us
 
 // 64 functions of eight nodes, 1,024 edges, frames of 16 to 256 bytes. Without recursion a function calls and spawns later ones only,
 // and edges lead on.
-fn full_size(name: &'static str, recursion: bool) -> Table {
+pub fn full_size(name: &'static str, recursion: bool) -> Table {
     let mut random = Random::new(7);
     let mut records = Records::default();
     for function in 0..64 {
