@@ -23,7 +23,7 @@ use Rattle.sizes.specs.Call.{Call, call, choice_of, outside, Result, done, refus
 use Rattle.sizes.proofs.Calls.{is_done, nothing_refused, byte_refused, buffer_refused}
 use Rattle.sizes.proofs.Laws.{sizes_unique}
 use Rattle.safety.specs.Call.{Answers as SafetyAnswers}
-use Rattle.what_if.specs.Call.{ListCall, nodes_of, entries_of, part, wrong_number, wanted, outside_list, needed, what_if_result, Safeties, LeavesSets}
+use Rattle.what_if.specs.Call.{ListCall, nodes_of, entries_of, part, wrong_number, wanted, outside_list, needed, what_if_result, Safeties, Answers, LeavesSets}
 use Rattle.what_if.proofs.Calls as list
 use Rattle.what_if.proofs.Parts.{part_within, part_long, part_at}
 
@@ -47,20 +47,35 @@ module _ (x : ListCall) (valid : list.Valid x) (i : ℕ) (h : i < x.number) wher
       outside_part x.table x.choices i n l
       ∙ valid.none_outside (nodes_of x.table * i + n) (omega (arith, l, valid.long, part_within (nodes_of x.table) h))
 
-  -- it is not refused,
-  pub single_done : (buffer : ℕ) → entries_of x.table ≤ buffer → done ≡ call_result (single x i buffer)
+  single_done : (buffer : ℕ) → entries_of x.table ≤ buffer → done ≡ call_result (single x i buffer)
   single_done buffer b = nothing_refused (single x i buffer) valid.accepted_is single_long refl (earliest_none _ _ none_here) (entries_of x.table) refl b
 
-  -- says safe exactly when bit i is 1,
-  pub single_safe : {bits buffer : ℕ} → Safeties x.table x.choices x.number bits → entries_of x.table ≤ buffer → (answer : CodeResult Bool Refused) → SafetyAnswers (single x i buffer) answer → answer ≡ Ok (bit bits i)
+  single_safe : {bits buffer : ℕ} → Safeties x.table x.choices x.number bits → entries_of x.table ≤ buffer → (answer : CodeResult Bool Refused) → SafetyAnswers (single x i buffer) answer → answer ≡ Ok (bit bits i)
   single_safe {bits} {buffer} s b (Err r) a = absurd (true≢false (ap is_done (single_done buffer b ∙ sym a)))
   single_safe {bits} s b (Ok safe) a = ap Ok (same_test safe (bit bits i) (λ e. (s.safe_is i h).1 (a.1.0 e)) (λ f. a.1.1 ((s.safe_is i h).0 f)))
 
-  -- and leaves the sizes that stand in the list's set i.
-  pub single_leaves : {old new mine yours : List ℕ} → LeavesSets x.table x.choices x.number old new → LeavesFor x.table (part (nodes_of x.table) i x.choices) mine done yours → (y : ℕ) → y < entries_of x.table → at yours y ≡ at (part (entries_of x.table) i new) y
+  single_leaves : {old new mine yours : List ℕ} → LeavesSets x.table x.choices x.number old new → LeavesFor x.table (part (nodes_of x.table) i x.choices) mine done yours → (y : ℕ) → y < entries_of x.table → at yours y ≡ at (part (entries_of x.table) i new) y
   single_leaves {old} {new} sets one y l =
       let many = sets.set i h in
       one.2.written y l ∙ sizes_unique (program_of x.table) (choice_of (part (nodes_of x.table) i x.choices)) one.0 many.0 one.1 many.1 y l ∙ sym (many.2.written y l)
+
+-- So, in so many words: the call for choice i, with the same table, part i of the list and a buffer that is long enough,
+pub record AsSingle (x : ListCall) (bits : ℕ) (new : List ℕ) (i buffer : ℕ) : Type 0 where
+  -- is not refused,
+  pub not_refused : done ≡ call_result (single x i buffer)
+  -- says safe exactly when bit i is 1,
+  pub says : (answer : CodeResult Bool Refused) → SafetyAnswers (single x i buffer) answer → answer ≡ Ok (bit bits i)
+  -- and leaves the sizes that stand in the list's set i.
+  pub leaves : {mine yours : List ℕ} → LeavesFor x.table (part (nodes_of x.table) i x.choices) mine done yours → (y : ℕ) → y < entries_of x.table → at yours y ≡ at (part (entries_of x.table) i new) y
+
+pub each_as_single : (x : ListCall) {bits : ℕ} {old new : List ℕ} → Answers x (Ok bits) → LeavesSets x.table x.choices x.number old new → (i buffer : ℕ) → i < x.number → entries_of x.table ≤ buffer → AsSingle x bits new i buffer
+each_as_single x answers sets i buffer h b =
+    let valid = list.done_valid x answers.0 in
+    record {
+      not_refused = single_done x valid i h buffer b;
+      says = single_safe x valid i h answers.1 b;
+      leaves = single_leaves x valid i h sets;
+    }
 
 -- ---- what is refused
 
