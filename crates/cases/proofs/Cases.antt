@@ -6,6 +6,7 @@ use Rattle.table.specs.Below.{earliest, any, count}
 use Rattle.table.specs.Refusal.{refusal}
 use Rattle.table.specs.Record.{kind_of, sort_of, field_a, field_b, field_c, functions, nodes, edges}
 use Rattle.table.specs.Checks.{checks, broken, unlisted, out_of_order, too_many, no_entry, absent, foreign, not_plain}
+use Rattle.program.specs.Frame.{frame_of}
 use Rattle.rules.specs.Choice.{unguarded}
 use Rattle.rules.specs.declared.sums.Sum.TheVariants.{After, Before, Through}
 use Rattle.text.specs.Listing.{digits, decimal, size_text, size_field, four_fields, verdict_word, function_line, spawn_line, joined, listing}
@@ -54,7 +55,7 @@ listed_a = record {
   choice = 0 ∷ unguarded ∷ 0 ∷ unguarded ∷ 0 ∷ 0 ∷ 0 ∷ [];
   plan = twice;
   depths = 0 ∷ 1 ∷ 1 ∷ [];
-  order = 1 ∷ 3 ∷ [];
+  order = 3 ∷ 1 ∷ [];
   merging = twice;
   more = [];
 }
@@ -75,5 +76,5 @@ evidence =
     ∷ []
 
 pub cases_hold : CasesHold
-unfolding refusal checks earliest broken unlisted out_of_order too_many no_entry absent foreign not_plain any count kind_of sort_of field_a field_b field_c functions nodes edges row rows_of every bits grown set_of reach_of sets_test run settled safe_test order_test choice_test obstacle best_test cases_test digits decimal size_text size_field four_fields verdict_word function_line spawn_line joined listing
+unfolding refusal checks earliest broken unlisted out_of_order too_many no_entry absent foreign not_plain any count kind_of sort_of field_a field_b field_c functions nodes edges frame_of row rows_of every bits grown set_of reach_of sets_test run settled safe_test order_test choice_test obstacle best_test cases_test digits decimal size_text size_field four_fields verdict_word function_line spawn_line joined listing
 cases_hold frame a b c d e f g = all_hold (cases frame a b c d e f g) evidence refl

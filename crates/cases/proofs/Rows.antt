@@ -1,13 +1,13 @@
 -- A table's program from short lists: the same program, and quick to compute with.
-use Prim.Native.Nat.{ℕ, zero, suc, ◌<◌, ◌≤◌}
+use Prim.Native.Nat.{ℕ, zero, suc, ◌<◌}
 use mathlib.Core.Path.{◌≡◌, refl, sym, ap, ap₂, ◌∙◌, fun_ext}
 use mathlib.Core.Bool.{Bool, true, false, cond, ◌&&◌, ◌||◌}
 use mathlib.Core.List.{List, [], ◌∷◌, ◌++◌}
-use mathlib.Core.Logic.{◌⊎◌, ⊎_elim}
+use mathlib.Core.Logic.{⊎_elim}
 use native.Mathlib.Omega.{arith}
 use native.Mathlib.Decide.{dec_lt}
 use lib.Dec.{eqb, ltb}
-use lib.ListN.{length, get_or, length-append, get_or-eq_default, get_or-append}
+use lib.ListN.{length, length-append, get_or-eq_default, get_or-append}
 use borrow.Author.Tests.{lt-ltb, le-ltb}
 use Rattle.size.specs.Numbers.{at}
 use Rattle.table.specs.Below.{any}

@@ -2,7 +2,7 @@
 use Rattle.std.specs.Prelude.{ℕ, ◌≡◌, Bool, false, List, [], ◌∷◌, Some}
 use Rattle.table.specs.Refusal.{refusal, refused_at}
 use Rattle.table.specs.Checks.{checks, Accepted}
-use Rattle.table.specs.Program.{Program, program_of}
+use Rattle.table.specs.Program.{program_of}
 use Rattle.sync.specs.Synchronising.{Synchronising}
 use Rattle.rules.specs.Choice.{ChoiceFor}
 use Rattle.rules.specs.Rules.{of_function, LeastSizes}

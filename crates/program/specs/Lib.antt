@@ -1,2 +1,3 @@
 pub mod Sort
+pub mod Frame
 pub mod Read

@@ -1,6 +1,7 @@
 // The fields of a function.
-ghost use Rattle.std.specs.Prelude.{◌≡◌, ◌<◌};
+ghost use Rattle.std.specs.Prelude.{◌≡◌, ◌<◌, ◌≤◌};
 ghost use Rattle.table.specs.Program.{program_of};
+ghost use Rattle.program.specs.Frame.{frame_of};
 
 use crate::Program;
 use table::record;
@@ -30,11 +31,11 @@ impl Program<'_> {
         record::field_b(self.table, f)
     }
 
-    // The frame of function f, in bytes.
-    pub fn frame(&self, f: usize) -> u16
+    // What the frame of function f counts as, in bytes.
+    pub fn frame(&self, f: usize) -> u32
         requires { f < self.now.of.functions }
-        ensures { result ≡ (program_of self.now.table.now).frame f }
+        ensures { (result ≡ frame_of (program_of self.now.table.now) f) × (result ≤ 65536) }
     {
-        record::field_c(self.table, f)
+        u32::from(record::field_c(self.table, f))
     }
 }

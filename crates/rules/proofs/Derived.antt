@@ -7,11 +7,12 @@ use borrow.Author.Tests.{eqb-true, not-true}
 use Rattle.table.proofs.Booleans.{and_true_left, and_true_right}
 use Rattle.table.specs.Program.{Program}
 use Rattle.table.specs.WellFormed.{WellFormed}
+use Rattle.program.specs.Frame.{frame_of}
 use Rattle.sync.specs.Paths.{Path, stop, step, Clear}
 use Rattle.sync.specs.Synchronising.{Reached}
 use Rattle.sync.proofs.Paths.{path_owner, clear_open}
 use Rattle.size.specs.Size.{cap}
-use Rattle.rules.specs.Rules.{total, post, pre, through, frame_of, of_node, sum, Meets}
+use Rattle.rules.specs.Rules.{total, post, pre, through, of_node, sum, Meets}
 use Rattle.rules.specs.Sums.{Ahead, after_sum, before_sum}
 use Rattle.rules.specs.System.{Entry, size, along, node_entry, function_entry, Rule, start, step_on, end, total_node, total_edge, target_of, form_of, gives, taken, Der, none, rule}
 use Rattle.rules.specs.declared.sums.Sum.TheVariants.{After, Before, Through}

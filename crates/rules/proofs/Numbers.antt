@@ -10,10 +10,10 @@ use Rattle.table.specs.Answer.{Ready}
 use Rattle.table.specs.Program.{program_of}
 use Rattle.table.specs.declared.Counts.{Counts}
 use Rattle.table.proofs.Ready.{few_functions, few_nodes, functions_are}
+use Rattle.program.specs.Frame.{frame_of}
 use Rattle.size.specs.Size.{unbounded, value_of}
 use Rattle.size.specs.declared.Size.{Size}
 use Rattle.size.proofs.Values.{value_le}
-use Rattle.rules.specs.Rules.{frame_of}
 use Rattle.rules.specs.System.{Form, Entry, size, along, kind_for, from, to, ending, due, taken, start_form, step_form, end_form, total_node_form, total_edge_form, target_form}
 use Rattle.rules.specs.Entries.{offset, entry_at}
 use Rattle.solver.specs.Words.{entry_count}

@@ -6,6 +6,7 @@ use native.Mathlib.Omega.{arith}
 use borrow.Author.Tests.{eq-eqb}
 use Rattle.table.specs.Program.{Program}
 use Rattle.table.specs.WellFormed.{WellFormed}
+use Rattle.program.specs.Frame.{frame_of}
 use Rattle.sync.specs.Paths.{Path, stop, step, Clear, Open}
 use Rattle.sync.specs.Synchronising.{Synchronising, Reached}
 use Rattle.sync.proofs.Paths.{path_owner, path_exists}
@@ -13,7 +14,7 @@ use Rattle.sync.proofs.Laws.{plain_open}
 use Rattle.rules.proofs.Ahead.{open_ahead}
 use Rattle.rules.proofs.Derived.{derived_has}
 use Rattle.size.specs.Size.{cap, unbounded}
-use Rattle.rules.specs.Rules.{total, post, pre, through, frame_of, sum, sum_after, sum_before, Meets, Least}
+use Rattle.rules.specs.Rules.{total, post, pre, through, sum, sum_after, sum_before, Meets, Least}
 use Rattle.rules.specs.System.{Entry, size, along, function_entry, node_entry, start, step_on, end, total_node, total_edge, target_of, Der, none, rule, Solved}
 use Rattle.rules.specs.declared.sums.Sum.TheVariants.{After, Before, Through}
 use Rattle.rules.proofs.Taking.{takes_call, takes_unguarded, takes_merged, taken_call, taken_spawn}

@@ -2,6 +2,7 @@
 use Rattle.std.specs.Prelude.{ℕ, ◌+◌, ◌*◌, ◌<◌, ◌≤◌, ◌≡◌, Bool, true}
 use Rattle.table.specs.Record.{call, spawn}
 use Rattle.table.specs.Program.{Program}
+use Rattle.program.specs.Frame.{frame_of}
 use Rattle.sync.specs.Paths.{Path, stop, step, Clear, Open}
 use Rattle.sync.specs.Synchronising.{Synchronising}
 use Rattle.size.specs.Size.{unbounded, cap}
@@ -30,10 +31,6 @@ of_node g sizes k n = sizes (4 * (g.functions + n) + k)
 -- "4 × (functions + nodes)"
 abbrev pub entries : Program → ℕ
 entries g = 4 * (g.functions + g.nodes)
-
--- What a frame counts as, as a size: its bytes.
-abbrev pub frame_of : Program → ℕ → ℕ
-frame_of g f = g.frame f
 
 -- What a merged spawn's rules use of its target: "Total of its target".
 abbrev pub spawned : Program → (ℕ → ℕ) → ℕ → ℕ

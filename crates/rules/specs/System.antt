@@ -2,11 +2,12 @@
 use Rattle.std.specs.Prelude.{ℕ, ◌+◌, ◌*◌, ◌<◌, ◌≤◌, ◌≡◌, [], ◌∷◌, Bool, true, cond, not, ◌&&◌, ◌||◌, eqb, leb}
 use Rattle.table.specs.Record.{call, spawn}
 use Rattle.table.specs.Program.{Program}
+use Rattle.program.specs.Frame.{frame_of}
 use Rattle.solver.specs.System.{Derives, Solves}
 use Rattle.solver.specs.System.{Form as FormOf}
 pub use Rattle.solver.specs.System.{sum_of, gives, none, rule}
 use Rattle.rules.specs.Choice.{guarded, unguarded}
-use Rattle.rules.specs.Rules.{total, post, pre, through, frame_of}
+use Rattle.rules.specs.Rules.{total, post, pre, through}
 use Rattle.rules.specs.declared.sums.Sum.{Sum}
 use Rattle.rules.specs.declared.sums.Sum.TheVariants.{After, Before, Through}
 

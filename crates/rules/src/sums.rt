@@ -3,7 +3,7 @@ ghost use Rattle.std.specs.Prelude.{◌≡◌, ◌+◌, ◌<◌, ◌≤◌};
 ghost use Rattle.table.specs.Program.{program_of};
 ghost use Rattle.sync.specs.Words.{member};
 ghost use Rattle.size.specs.Size.{value_of};
-ghost use Rattle.rules.specs.Rules.{frame_of};
+ghost use Rattle.program.specs.Frame.{frame_of};
 ghost use Rattle.rules.specs.System.{kind_for, starts, from, to, steps, ending, ends, due};
 ghost use Rattle.rules.specs.Entries.{offset};
 
@@ -118,5 +118,5 @@ pub(crate) fn frame_size(program: &Program<'_>, f: usize) -> Size
     requires { f < program.now.of.functions }
     ensures { value_of result ≡ frame_of (program_of program.now.table.now) f }
 {
-    Size::from_frame(u32::from(program.frame(f)))
+    Size::from_frame(program.frame(f))
 }

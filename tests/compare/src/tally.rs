@@ -3,7 +3,7 @@
 use crate::answers::Answers;
 use crate::input::{Input, BEHIND, KINDS};
 use crate::list::{List, MOST};
-use second::choice::depths;
+use second::choice::{depths, order};
 use second::sizes::numbers_needed;
 use second::table::{check, Program, Sort};
 
@@ -20,6 +20,7 @@ enum Seen {
     Unmerged,
     Mixed,
     Deep,
+    FrameFirst,
     Many,
     Functions,
     Nodes,
@@ -46,7 +47,7 @@ enum Seen {
 }
 
 /// The least number of each in `COUNT` inputs.
-const SEEN: [(Seen, &str, u64); 31] = [
+const SEEN: [(Seen, &str, u64); 32] = [
     (Seen::Safe, "choices found safe", 60_000),
     (Seen::Unsafe, "choices found unsafe", 30_000),
     (Seen::WrongBytes, "choices with more than one wrong byte", 10_000),
@@ -55,6 +56,7 @@ const SEEN: [(Seen, &str, u64); 31] = [
     (Seen::Unmerged, "spawns left unmerged by a best choice", 100_000),
     (Seen::Mixed, "best choices with different verdicts", 30_000),
     (Seen::Deep, "accepted tables with a spawn of depth 10 or more", 4_000),
+    (Seen::FrameFirst, "accepted tables where a larger frame comes before a smaller number", 20_000),
     (Seen::Many, "accepted tables with 20 spawns or more", 6_000),
     (Seen::Functions, "accepted tables with 64 functions", 1_500),
     (Seen::Nodes, "accepted tables with 512 nodes", 2_000),
@@ -135,7 +137,10 @@ impl Tally {
     fn add_accepted(&mut self, program: &Program, input: &Input, answers: &Answers) {
         let spawns: Vec<usize> = (0..program.nodes.len()).filter(|&n| program.nodes[n].sort == Sort::Spawn).collect();
         let depths = depths(program);
-        self.see(Seen::Deep, spawns.iter().any(|&s| depths[program.nodes[s].owner] >= 10) as usize);
+        let depth = |s: usize| depths[program.nodes[s].owner];
+        self.see(Seen::Deep, spawns.iter().any(|&s| depth(s) >= 10) as usize);
+        let frame_first = |pair: &[usize]| depth(pair[0]) == depth(pair[1]) && pair[0] > pair[1];
+        self.see(Seen::FrameFirst, order(program).windows(2).any(frame_first) as usize);
         self.see(Seen::Many, (spawns.len() >= 20) as usize);
         self.see(Seen::Functions, (program.functions.len() == 64) as usize);
         self.see(Seen::Nodes, (program.nodes.len() == 512) as usize);

@@ -4,6 +4,7 @@ use crate::safety::safe_choice;
 use crate::sizes::{least, numbers_needed};
 use crate::sync::synchronising;
 use crate::table::{check, Program, Refusal, Sort};
+use std::cmp::Reverse;
 
 /// "A function's depth is the fewest calls and spawns from an entry to it; entries have 0, and so has one that no entry
 /// reaches."
@@ -30,18 +31,15 @@ pub fn depths(program: &Program) -> Vec<usize> {
     fewest.iter().map(|depth| depth.unwrap_or(0)).collect()
 }
 
-/// "A spawn's depth is its owner's. Deeper spawns come first; equal depth, smaller node number first."
+/// "A spawn's depth is its owner's. Deeper spawns come first"; "Equal depth is now broken by the larger frame of the
+/// spawned function, and then by the smaller node number."
 pub fn order(program: &Program) -> Vec<usize> {
     let depths = depths(program);
-    let mut spawns: Vec<usize> = Vec::new();
-    let deepest = *depths.iter().max().unwrap();
-    for depth in (0..=deepest).rev() {
-        for (n, node) in program.nodes.iter().enumerate() {
-            if node.sort == Sort::Spawn && depths[node.owner] == depth {
-                spawns.push(n);
-            }
-        }
-    }
+    let mut spawns: Vec<usize> = (0..program.nodes.len()).filter(|&n| program.nodes[n].sort == Sort::Spawn).collect();
+    spawns.sort_by_key(|&n| {
+        let node = &program.nodes[n];
+        (Reverse(depths[node.owner]), Reverse(program.functions[node.target].frame), n)
+    });
     spawns
 }
 

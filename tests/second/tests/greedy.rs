@@ -2,11 +2,21 @@
 
 use second::choice::{depths, greedy, greedy_in, order, unbeaten};
 use second::random::{self, Frames, Random, Shape};
-use second::table::{check, Sort};
+use second::table::{check, Program, Sort};
+use std::cmp::Reverse;
 
-fn compare(seed: u64, tables: usize, shape: Shape) {
+/// The spawns by their depths and numbers alone.
+fn order_by_numbers(program: &Program) -> Vec<usize> {
+    let depths = depths(program);
+    let mut spawns = order(program);
+    spawns.sort_by_key(|&n| (Reverse(depths[program.nodes[n].owner]), n));
+    spawns
+}
+
+/// Returns in how many of the tables it matters that frames are compared.
+fn compare(seed: u64, tables: usize, shape: Shape) -> usize {
     let mut random = Random::new(seed);
-    let (mut mixed, mut ordered) = (0, 0);
+    let (mut mixed, mut ordered, mut framed) = (0, 0, 0);
     for _ in 0..tables {
         let bytes = random::table(&mut random, shape);
         let program = check(&bytes).unwrap();
@@ -18,14 +28,17 @@ fn compare(seed: u64, tables: usize, shape: Shape) {
         mixed += spawns.iter().any(|&s| found[s] != found[spawns[0]]) as usize;
         let backward: Vec<usize> = spawns.iter().rev().copied().collect();
         ordered += (greedy_in(&program, &backward) != found) as usize;
+        framed += (greedy_in(&program, &order_by_numbers(&program)) != found) as usize;
     }
-    println!("{tables} tables, {mixed} with different bytes, {ordered} where the order matters");
+    println!("{tables} tables, {mixed} with different bytes, {ordered} where the order matters, {framed} by frames");
     assert!(mixed > tables / 20 && ordered > tables / 100);
+    framed
 }
 
 #[test]
 fn large_frames() {
-    compare(1, 6_000, Shape { functions: 5, inner: 5, spawns: 5, frames: Frames::Usual, ..Shape::USUAL });
+    let shape = Shape { functions: 5, inner: 5, spawns: 5, frames: Frames::Usual, ..Shape::USUAL };
+    assert!(compare(1, 6_000, shape) > 20);
 }
 
 #[test]

@@ -202,10 +202,33 @@ fn rounds_are_counted() {
 fn depth_and_order() {
     let a = check(&case_a()).unwrap();
     assert_eq!(depths(&a), [0, 1, 1]);
-    assert_eq!(order(&a), [1, 3]);
+    assert_eq!(order(&a), [3, 1]);
     let e = check(&case_e()).unwrap();
     assert_eq!(depths(&e), [0, 1, 2]);
     assert_eq!(order(&e), [4, 1]);
+}
+
+/// Function 0 spawns frames of 1, 65,535, 1 and 0, and function 1, one deeper, a frame of 0.
+#[test]
+fn larger_frames_first() {
+    let bytes = table(&[
+        [1, 1, 0, 0, 4],
+        [1, 0, 5, 5, 1],
+        [1, 0, 6, 6, 65_535],
+        [1, 0, 7, 7, 1],
+        [1, 0, 9, 9, 0],
+        [2, 0, 0, 0, 0],
+        [2, 2, 0, 1, 0],
+        [2, 2, 0, 2, 0],
+        [2, 2, 0, 3, 0],
+        [2, 2, 0, 4, 0],
+        [2, 0, 1, 0, 0],
+        [2, 0, 2, 0, 0],
+        [2, 0, 3, 0, 0],
+        [2, 2, 1, 4, 0],
+        [2, 0, 4, 0, 0],
+    ]);
+    assert_eq!(order(&check(&bytes).unwrap()), [8, 2, 1, 3, 4]);
 }
 
 #[test]
