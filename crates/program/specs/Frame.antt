@@ -1,4 +1,4 @@
--- What a frame counts as, wherever a rule of document 01 or the preference order speaks of one: its bytes.
+-- What a frame counts as, wherever a rule of document 01 or the preference order speaks of one: "the frame in bytes".
 use Rattle.std.specs.Prelude.{ℕ}
 use Rattle.table.specs.Program.{Program}
 
