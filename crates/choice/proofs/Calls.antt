@@ -11,8 +11,8 @@ use Rattle.table.specs.Checks.{checks, Accepted}
 use Rattle.table.specs.Program.{program_of}
 use Rattle.table.proofs.Refusals.{whole_here, whole_pass, whole_passes, refusal_over_none}
 use Rattle.rules.specs.Rules.{entries}
-use Rattle.sizes.specs.Call.{done, refused}
-use Rattle.sizes.proofs.Calls.{told_refused, told_done, none_refused, table_accepted, sizes_short, sizes_long, sizes_fit}
+use Rattle.sizes.specs.Call.{done, refused, sizes_result}
+use Rattle.sizes.proofs.Calls.{told_refused, none_refused, table_accepted, last_row, sizes_fit}
 use Rattle.choice.specs.Call.{BestCall, few_verdicts, buffer_checks, best_checks, best_result}
 
 module _ (x : BestCall) (a : Accepted x.table) where
@@ -33,14 +33,9 @@ module _ (x : BestCall) (a : Accepted x.table) where
         let s : (program_of x.table).nodes ≤ x.verdicts = omega arith in
         past_table ∙ whole_pass x 10 few_verdicts _ _ (le-ltb x.verdicts (program_of x.table).nodes s)
 
-    module _ (h : nodes ≤ x.verdicts) (needed : ℕ) (e : needed ≡ entries (program_of x.table)) where
-      pub buffer_refused : x.buffer < needed → refused 11 needed ≡ best_result x
-      unfolding best_result buffer_checks
-      buffer_refused b = told_refused best_checks x 11 needed (past_verdicts h ∙ sizes_short _ _ x needed e b)
-
-      pub nothing_refused : needed ≤ x.buffer → done ≡ best_result x
-      unfolding best_result buffer_checks
-      nothing_refused b = told_done best_checks x (past_verdicts h ∙ sizes_long _ _ x needed e b)
+    pub sizes_decide : nodes ≤ x.verdicts → (needed : ℕ) → needed ≡ entries (program_of x.table) → sizes_result needed x.buffer ≡ best_result x
+    unfolding best_result buffer_checks
+    sizes_decide h = last_row _ _ x best_checks (past_verdicts h)
 
 -- ---- a call that is not refused
 

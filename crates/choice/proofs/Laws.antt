@@ -14,10 +14,10 @@ use Rattle.sizes.specs.Call.{choice_of, result_of}
 use Rattle.std.specs.Prelude.{Ok, Err}
 use Rattle.std.specs.Prelude.{Result as CodeResult}
 use Rattle.table.specs.declared.refusal.Refused.{Refused}
-use Rattle.sizes.proofs.Calls.{is_done}
+use Rattle.sizes.proofs.Calls.{is_done, long_enough}
 use Rattle.choice.specs.Beats.{Best, Returned}
 use Rattle.choice.specs.Call.{best_call, best_result, LeavesBoth}
-use Rattle.choice.proofs.Calls.{nothing_refused}
+use Rattle.choice.proofs.Calls.{sizes_decide}
 
 module _ (g : Program) (r : ℕ → ℕ) (p : Returned g r) where
   -- the choice returned is best
@@ -41,4 +41,4 @@ pub one_returned : {X : Type 0} (t old_verdicts new_verdicts old_sizes new_sizes
 one_returned t v w s u (Ok x) a b c r l = ((x, refl), l.returned)
 one_returned t v w s u (Err e) a b c r l =
     absurd
-    (true≢false (ap is_done (nothing_refused (best_call t (length v) (length s)) a (program_of t).nodes refl b (entries (program_of t)) refl c ∙ sym r)))
+    (true≢false (ap is_done (long_enough _ (length s) c ∙ sizes_decide (best_call t (length v) (length s)) a (program_of t).nodes refl b (entries (program_of t)) refl ∙ sym r)))

@@ -6,11 +6,11 @@ ghost use Rattle.choice.specs.Call.{best_call, best_result};
 
 use program::Program;
 use sizes::Known;
-use sizes::admit::look;
+use sizes::admit::{judge_sizes, look};
 use table::refusal::{Cause, Refused};
 
 // Judges the lengths of both buffers.
-#[tactic(auto, using(crate::proofs::Calls::verdicts_refused, crate::proofs::Calls::buffer_refused, crate::proofs::Calls::nothing_refused))]
+#[tactic(auto, using(crate::proofs::Calls::verdicts_refused))]
 fn judge(program: &Program<'_>, verdicts: usize, buffer: usize) -> Result<(), Refused>
     ensures { result_of result ≡ best_result (best_call program.now.table.now verdicts buffer) }
 {
@@ -21,14 +21,7 @@ fn judge(program: &Program<'_>, verdicts: usize, buffer: usize) -> Result<(), Re
             place: nodes,
         });
     }
-    let needed = program.entries();
-    if buffer < needed {
-        return Err(Refused {
-            cause: Cause::Sizes,
-            place: needed,
-        });
-    }
-    Ok(())
+    judge_sizes(program.entries(), buffer)
 }
 
 // Judges a call with a verdict buffer of so many bytes and a sizes buffer of so many numbers.

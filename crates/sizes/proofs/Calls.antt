@@ -3,12 +3,12 @@ use Prim.Native.Nat.{ℕ, ◌<◌, ◌≤◌}
 use mathlib.Core.Path.{◌≡◌, refl, sym, ap, ◌∙◌, subst}
 use mathlib.Core.Bool.{Bool, true, false, true≢false, not, ◌&&◌, ◌||◌}
 use mathlib.Core.List.{List, [], ◌∷◌, ◌++◌, map, Memᴰ}
-use Rattle.std.specs.Prelude.{Option, None, Some}
+use Rattle.std.specs.Prelude.{cond, Option, None, Some, option_map}
+use Rattle.std.specs.Option.{option_or}
 use Rattle.table.proofs.Booleans.{some_not_none}
-use native.Mathlib.Omega.{arith}
 use lib.Dec.{eqb, leb, ltb}
 use lib.ListN.{length, drop}
-use borrow.Author.Tests.{eq-eqb, ne_eqb, eqb-true, lt-ltb, le-ltb, ltb-false, leb-true, not-false}
+use borrow.Author.Tests.{eq-eqb, ne_eqb, eqb-true, le-ltb, ltb-false, leb-true, not-false}
 use Rattle.table.specs.Below.{earliest}
 use Rattle.table.specs.Record.{spawn}
 use Rattle.table.specs.Refusal.{Check, Refusal, over, refused_at, refusal}
@@ -25,7 +25,7 @@ use Rattle.table.proofs.Booleans.{or_false, and_true_left, and_true_right}
 use Rattle.table.proofs.Refusals.{refusal_pass, refusal_here, whole_here, whole_pass, whole_passes, each_passes, refusal_over_none, refusal_over_some}
 use Rattle.rules.specs.Choice.{unmerged, unguarded, ChoiceFor}
 use Rattle.rules.specs.Rules.{entries, LeastSizes}
-use Rattle.sizes.specs.Call.{Call, choice_of, wrong_length, outside, sizes_row, choice_checks, call_checks, Result, done, refused, result_for, table_result, call_result, result_of}
+use Rattle.sizes.specs.Call.{Call, choice_of, wrong_length, outside, sizes_row, sizes_result, choice_checks, call_checks, Result, done, refused, result_for, table_result, call_result, result_of}
 use Rattle.sizes.specs.Known.{KnownFor}
 use Rattle.sizes.specs.Trials.{known_program, FoundFor}
 use Rattle.sync.specs.declared.Known.{Known}
@@ -79,18 +79,21 @@ module _ {X : Type 0} (table : X → List ℕ) (cs : List (Check X)) (x : X) whe
       go None q = q
       go (Some r) q = absurd (some_not_none r (sym (refusal_over_some table cs x checks q) ∙ e))
 
--- the row of the sizes buffer: what it says where it is the last one left, and what it sees to
-module _ {X : Type 0} (needed buffer : X → ℕ) (x : X) where
-  module _ (found : ℕ) (e : found ≡ needed x) where
-    pub sizes_short : buffer x < found → refusal (sizes_row needed buffer ∷ []) x ≡ Some (refused_at 11 found)
-    sizes_short b = rw e (whole_here x 11 (λ y. ltb (buffer y) (needed y)) needed [] (lt-ltb (buffer x) (needed x) (omega (arith, b, e))))
+-- the row of the sizes buffer: it decides where it is the last one left, and what nothing refuses fits
+module _ {X : Type 0} (needed buffer : X → ℕ) (x : X) (cs : List (Check X)) where
+  pub last_row : refusal cs x ≡ refusal (sizes_row needed buffer ∷ []) x → (found : ℕ) → found ≡ needed x → sizes_result found (buffer x) ≡ result_for (refusal cs x)
+  unfolding refusal result_for
+  last_row past found e = rw (past, e) (go (ltb (buffer x) (needed x)))
+    where
+      go : (b : Bool) → cond b (refused 11 (needed x)) done ≡ result_for (option_or (option_map (refused_at 11) (cond b (Some (needed x)) None)) None)
+      go true = refl
+      go false = refl
 
-    pub sizes_long : found ≤ buffer x → refusal (sizes_row needed buffer ∷ []) x ≡ None
-    unfolding refusal
-    sizes_long b = whole_pass x 11 (λ y. ltb (buffer y) (needed y)) needed [] (le-ltb (buffer x) (needed x) (omega (arith, b, e)))
+  pub sizes_fit : Memᴰ (sizes_row needed buffer) cs → refusal cs x ≡ None → needed x ≤ buffer x
+  sizes_fit m e = ltb-false _ _ (whole_passes x 11 (λ y. ltb (buffer y) (needed y)) needed cs e m)
 
-  pub sizes_fit : (cs : List (Check X)) → Memᴰ (sizes_row needed buffer) cs → refusal cs x ≡ None → needed x ≤ buffer x
-  sizes_fit cs m e = ltb-false _ _ (whole_passes x 11 (λ y. ltb (buffer y) (needed y)) needed cs e m)
+pub long_enough : (needed buffer : ℕ) → needed ≤ buffer → done ≡ sizes_result needed buffer
+long_enough needed buffer h = rw (le-ltb buffer needed h)
 
 -- ---- the checks of a call with a choice
 
@@ -118,14 +121,9 @@ module _ (x : Call) (a : Accepted x.table) where
     unfolding choice_checks
     past_bytes e = past_length h ∙ refusal_pass x _ _ (sym f ∙ e)
 
-    module _ (l : found ≡ None) (needed : ℕ) (e : needed ≡ entries (program_of x.table)) where
-      pub buffer_refused : x.buffer < needed → refused 11 needed ≡ call_result x
-      unfolding call_result choice_checks
-      buffer_refused b = told_refused call_checks x 11 needed (past_bytes l ∙ sizes_short _ _ x needed e b)
-
-      pub nothing_refused : needed ≤ x.buffer → done ≡ call_result x
-      unfolding call_result choice_checks
-      nothing_refused b = told_done call_checks x (past_bytes l ∙ sizes_long _ _ x needed e b)
+    pub sizes_decide : found ≡ None → (needed : ℕ) → needed ≡ entries (program_of x.table) → sizes_result needed x.buffer ≡ call_result x
+    unfolding call_result choice_checks
+    sizes_decide l = last_row _ _ x call_checks (past_bytes l)
 
 -- ---- a call that is not refused
 

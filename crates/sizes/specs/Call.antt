@@ -1,5 +1,5 @@
 -- Document 01, "Refused tables": the checks of a call that is handed a choice and a sizes buffer, and what it answers.
-use Rattle.std.specs.Prelude.{ℕ, ◌≡◌, Bool, not, ◌&&◌, ◌||◌, List, [], ◌∷◌, ◌++◌, map, eqb, leb, ltb, length, get_or, Option, None, Some}
+use Rattle.std.specs.Prelude.{ℕ, ◌≡◌, Bool, cond, not, ◌&&◌, ◌||◌, List, [], ◌∷◌, ◌++◌, map, eqb, leb, ltb, length, get_or, Option, None, Some}
 use Rattle.table.specs.Refusal.{Check, Refusal, of_whole, of_each, over, refusal}
 use Rattle.table.specs.Record.{spawn}
 use Rattle.table.specs.Checks.{checks}
@@ -61,6 +61,10 @@ pub data Result : Type 0 where
 unfoldable pub result_for : Option Refusal → Result
 result_for None = done
 result_for (Some r) = refused r.number r.place
+
+-- where no check applies but perhaps that of the sizes buffer
+abbrev pub sizes_result : (needed buffer : ℕ) → Result
+sizes_result needed buffer = cond (ltb buffer needed) (refused 11 needed) done
 
 -- by the checks on its table alone, and by all of them
 unfoldable pub table_result : List ℕ → Result

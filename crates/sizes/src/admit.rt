@@ -1,7 +1,7 @@
 // What a call that is handed a choice and a sizes buffer is refused for.
 ghost use Rattle.std.specs.Prelude.{◌≡◌, ◌<◌, IfOk};
 ghost use Rattle.table.specs.Below.{earliest};
-ghost use Rattle.sizes.specs.Call.{call, choice_of, outside, call_result, result_of, table_result};
+ghost use Rattle.sizes.specs.Call.{call, choice_of, outside, call_result, result_of, sizes_result, table_result};
 ghost use Rattle.sizes.specs.Known.{KnownFor};
 
 use program::Program;
@@ -25,6 +25,19 @@ fn first_outside(program: &Program<'_>, choice: &[u8]) -> Option<usize>
     (0..program.of.nodes).find(|n| is_outside(program, *n, chosen(choice, *n)))
 }
 
+// Judges the length of the sizes buffer, in any call that writes so many numbers into it. It is the last check of each.
+pub fn judge_sizes(needed: usize, buffer: usize) -> Result<(), Refused>
+    ensures { result_of result ≡ sizes_result needed buffer }
+{
+    if buffer < needed {
+        return Err(Refused {
+            cause: Cause::Sizes,
+            place: needed,
+        });
+    }
+    Ok(())
+}
+
 // Judges the choice and the length of the sizes buffer.
 fn judge(program: &Program<'_>, choice: &[u8], buffer: usize) -> Result<(), Refused>
     ensures { result_of result ≡ call_result (call program.now.table.now choice.now buffer) }
@@ -42,14 +55,7 @@ fn judge(program: &Program<'_>, choice: &[u8], buffer: usize) -> Result<(), Refu
             place,
         });
     }
-    let needed = program.entries();
-    if buffer < needed {
-        return Err(Refused {
-            cause: Cause::Sizes,
-            place: needed,
-        });
-    }
-    Ok(())
+    judge_sizes(program.entries(), buffer)
 }
 
 // Looks at a table: what it is refused for, or what is known of it.

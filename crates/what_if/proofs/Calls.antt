@@ -13,8 +13,8 @@ use Rattle.table.specs.Below.{earliest}
 use Rattle.table.specs.Refusal.{refusal}
 use Rattle.table.specs.Checks.{checks, Accepted}
 use Rattle.table.proofs.Refusals.{refusal_pass, refusal_here, whole_here, whole_pass, whole_passes, each_passes, refusal_over_none}
-use Rattle.sizes.specs.Call.{done, refused}
-use Rattle.sizes.proofs.Calls.{told_refused, told_done, none_refused, table_accepted, sizes_short, sizes_long, sizes_fit}
+use Rattle.sizes.specs.Call.{done, refused, sizes_result}
+use Rattle.sizes.proofs.Calls.{told_refused, none_refused, table_accepted, last_row, sizes_fit}
 use Rattle.table.proofs.Booleans.{or_false_right}
 use Rattle.what_if.specs.Fits.{Fits}
 use Rattle.what_if.specs.Call.{ListCall, wrong_number, wanted, wrong_list, outside_list, needed, list_checks, what_if_checks, what_if_result}
@@ -53,14 +53,9 @@ module _ (x : ListCall) (a : Accepted x.table) where
         unfolding list_checks
         past_bytes e = past_list ∙ refusal_pass x _ _ (sym f ∙ e)
 
-        module _ (l : found ≡ None) (room : ℕ) (e : room ≡ needed x) where
-          pub buffer_refused : x.buffer < room → refused 11 room ≡ what_if_result x
-          unfolding what_if_result list_checks
-          buffer_refused b = told_refused what_if_checks x 11 room (past_bytes l ∙ sizes_short _ _ x room e b)
-
-          pub nothing_refused : room ≤ x.buffer → done ≡ what_if_result x
-          unfolding what_if_result list_checks
-          nothing_refused b = told_done what_if_checks x (past_bytes l ∙ sizes_long _ _ x room e b)
+        pub sizes_decide : found ≡ None → (room : ℕ) → room ≡ needed x → sizes_result room x.buffer ≡ what_if_result x
+        unfolding what_if_result list_checks
+        sizes_decide l = last_row _ _ x what_if_checks (past_bytes l)
 
 -- ---- a call that is not refused
 

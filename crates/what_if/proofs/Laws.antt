@@ -4,12 +4,12 @@ use Prim.Native.Nat.{ℕ, ◌+◌, ◌*◌, ◌/◌, ◌%◌, ◌<◌, ◌≤◌
 use mathlib.Core.Path.{◌≡◌, refl, sym, ap, ◌∙◌}
 use mathlib.Core.Bool.{Bool, true, false, true≢false}
 use mathlib.Core.List.{List}
-use mathlib.Core.Logic.{◌⊎◌, inl, inr, ⊎_elim}
 use native.Mathlib.Nat.{mul-add-mod_self_left, mod-eq_of_lt, mod-lt, div-add-mod, div-lt_iff_lt-mul, mul_comm, zero-mul}
 use native.Mathlib.Decide.{dec_lt}
 use native.Mathlib.Omega.{arith}
+use lib.Dec.{ltb}
 use lib.ListN.{length}
-use Rattle.std.specs.Prelude.{Option, None, Some, Ok, Err}
+use Rattle.std.specs.Prelude.{cond, Option, None, Some, Ok, Err}
 use Rattle.std.specs.Prelude.{Result as CodeResult}
 use Rattle.table.specs.Below.{earliest}
 use Rattle.table.specs.Checks.{Accepted}
@@ -19,8 +19,8 @@ use Rattle.table.proofs.Booleans.{same_test, not_both}
 use Rattle.table.proofs.Below.{earliest_none, earliest_some, earliest_found, earliest_passed, earliest_before}
 use Rattle.size.specs.Numbers.{at}
 use Rattle.sync.specs.Words.{bit}
-use Rattle.sizes.specs.Call.{Call, call, choice_of, outside, Result, done, refused, call_result, LeavesFor}
-use Rattle.sizes.proofs.Calls.{is_done, nothing_refused, byte_refused, buffer_refused}
+use Rattle.sizes.specs.Call.{Call, call, choice_of, outside, Result, done, refused, sizes_result, call_result, LeavesFor}
+use Rattle.sizes.proofs.Calls.{is_done, long_enough, byte_refused, sizes_decide}
 use Rattle.sizes.proofs.Laws.{sizes_unique}
 use Rattle.safety.specs.Call.{Answers as SafetyAnswers}
 use Rattle.what_if.specs.Call.{ListCall, nodes_of, entries_of, part, wrong_number, wanted, outside_list, needed, what_if_result, Safeties, Answers, LeavesSets}
@@ -48,7 +48,7 @@ module _ (x : ListCall) (valid : list.Valid x) (i : ℕ) (h : i < x.number) wher
       ∙ valid.none_outside (nodes_of x.table * i + n) (omega (arith, l, valid.long, part_within (nodes_of x.table) h))
 
   single_done : (buffer : ℕ) → entries_of x.table ≤ buffer → done ≡ call_result (single x i buffer)
-  single_done buffer b = nothing_refused (single x i buffer) valid.accepted_is single_long refl (earliest_none _ _ none_here) (entries_of x.table) refl b
+  single_done buffer b = long_enough _ buffer b ∙ sizes_decide (single x i buffer) valid.accepted_is single_long refl (earliest_none _ _ none_here) (entries_of x.table) refl
 
   single_safe : {bits buffer : ℕ} → Safeties x.table x.choices x.number bits → entries_of x.table ≤ buffer → (answer : CodeResult Bool Refused) → SafetyAnswers (single x i buffer) answer → answer ≡ Ok (bit bits i)
   single_safe {bits} {buffer} s b (Err r) a = absurd (true≢false (ap is_done (single_done buffer b ∙ sym a)))
@@ -95,25 +95,20 @@ le_or p at h = go (dec_lt at p)
     go (no n) = omega (arith, n)
 
 -- where a call comes to a refusal under 9, the byte that it looks for is there: else it would come to another refusal or to none
-byte_told : (o : Option ℕ) {r : Result} (m : ℕ) → refused 9 m ≡ r → ((q : ℕ) → o ≡ Some q → refused 9 q ≡ r) → (o ≡ None → (done ≡ r) ⊎ ((p : ℕ) × (refused 11 p ≡ r))) → o ≡ Some m
-byte_told (Some q) m e found none = ap Some (ap place_in (found q refl ∙ sym e))
-byte_told None m e found none =
-    absurd (⊎_elim (λ d. true≢false (ap is_done (d ∙ sym e))) (λ s. omega (arith, ap number_in (s.1 ∙ sym e))) (none refl))
+byte_told : (o : Option ℕ) {r : Result} (m needed buffer : ℕ) → refused 9 m ≡ r → ((q : ℕ) → o ≡ Some q → refused 9 q ≡ r) → (o ≡ None → sizes_result needed buffer ≡ r) → o ≡ Some m
+byte_told (Some q) m needed buffer e found none = ap Some (ap place_in (found q refl ∙ sym e))
+byte_told None m needed buffer e found none = absurd (other (ltb buffer needed) (e ∙ sym (none refl)))
+  where
+    other : (b : Bool) → refused 9 m ≡ cond b (refused 11 needed) done → ⊥
+    other true q = omega (arith, ap number_in q)
+    other false q = true≢false (sym (ap is_done q))
 
 byte_of : (y : Call) → Accepted y.table → length y.choice ≡ (program_of y.table).nodes → (m : ℕ) → refused 9 m ≡ call_result y → earliest (λ n. outside y.table n (choice_of y.choice n)) (program_of y.table).nodes ≡ Some m
-byte_of y a l m e = byte_told _ m e (byte_refused y a l refl) (λ n. past n (dec_lt y.buffer (entries_of y.table)))
-  where
-    past : earliest (λ n. outside y.table n (choice_of y.choice n)) (program_of y.table).nodes ≡ None → Dec (y.buffer < entries_of y.table) → (done ≡ call_result y) ⊎ ((p : ℕ) × (refused 11 p ≡ call_result y))
-    past n (yes b) = inr (entries_of y.table, buffer_refused y a l refl n (entries_of y.table) refl b)
-    past n (no b) = inl (nothing_refused y a l refl n (entries_of y.table) refl (omega (arith, b)))
+byte_of y a l m e = byte_told _ m (entries_of y.table) y.buffer e (byte_refused y a l refl) (λ n. sizes_decide y a l refl n (entries_of y.table) refl)
 
 module _ (x : ListCall) (a : Accepted x.table) (few : wrong_number x ≡ false) (long : length x.choices ≡ wanted x) where
   byte_of_list : (p : ℕ) → refused 9 p ≡ what_if_result x → earliest (outside_list x.table x.choices) (length x.choices) ≡ Some p
-  byte_of_list p e = byte_told _ p e (list.byte_refused x a few long refl) (λ n. past n (dec_lt x.buffer (needed x)))
-    where
-      past : earliest (outside_list x.table x.choices) (length x.choices) ≡ None → Dec (x.buffer < needed x) → (done ≡ what_if_result x) ⊎ ((p : ℕ) × (refused 11 p ≡ what_if_result x))
-      past n (yes b) = inr (needed x, list.buffer_refused x a few long refl n (needed x) refl b)
-      past n (no b) = inl (list.nothing_refused x a few long refl n (needed x) refl (omega (arith, b)))
+  byte_of_list p e = byte_told _ p (needed x) x.buffer e (list.byte_refused x a few long refl) (λ n. list.sizes_decide x a few long refl n (needed x) refl)
 
   -- the part that position p lies in
   module _ (i : ℕ) (h : i < x.number) where

@@ -1,7 +1,7 @@
 use mathlib.Core.Path.{◌∙◌}
 use native.Mathlib.Omega.{arith}
 use Rattle.sizes.specs.Call.{call}
-use Rattle.sizes.proofs.Calls.{length_refused, byte_refused, buffer_refused, nothing_refused}
+use Rattle.sizes.proofs.Calls.{length_refused, byte_refused, sizes_decide}
 use Rattle.sizes.proofs.admit.judge.Goals as goal
 
 pub returns-then-choice-nodes : goal.returns-then-choice-nodes
@@ -17,16 +17,9 @@ returns-in-Some c =
     let e = p.nodes_are in
     byte_refused (call p.table.now a.choice.now a.buffer) p.ready.accepted_is (c.if-choice-nodes.false ∙ e) (rw e at c.first_outside.ensures) c.in-Some.place c.in-Some.is
 
-pub returns-then-buffer-needed : goal.returns-then-buffer-needed
-returns-then-buffer-needed c =
-    let a = c.args in
-    let p = a.program.now in
-    let e = p.nodes_are in
-    buffer_refused (call p.table.now a.choice.now a.buffer) p.ready.accepted_is (c.if-choice-nodes.false ∙ e) (rw e at c.first_outside.ensures) c.in_default.is c.entries-needed.result (omega (arith, c.entries-needed.ensures, p.functions_are)) c.if-buffer-needed.true
-
 pub returns : goal.returns
 returns c =
     let a = c.args in
     let p = a.program.now in
     let e = p.nodes_are in
-    nothing_refused (call p.table.now a.choice.now a.buffer) p.ready.accepted_is (c.if-choice-nodes.false ∙ e) (rw e at c.first_outside.ensures) c.in_default.is c.entries-needed.result (omega (arith, c.entries-needed.ensures, p.functions_are)) c.if-buffer-needed.false
+    c.judge_sizes.ensures ∙ sizes_decide (call p.table.now a.choice.now a.buffer) p.ready.accepted_is (c.if-choice-nodes.false ∙ e) (rw e at c.first_outside.ensures) c.in_default.is c.entries.result (omega (arith, c.entries.ensures, p.functions_are))

@@ -3,7 +3,7 @@ use native.Mathlib.Omega.{arith}
 use Prim.Native.Nat.{ℕ, ◌+◌, ◌*◌}
 use Rattle.program.specs.declared.Program.{Program}
 use Rattle.what_if.specs.Call.{list_call, nodes_of, entries_of, wrong_number}
-use Rattle.what_if.proofs.Calls.{number_refused, length_refused, byte_refused, buffer_refused, nothing_refused}
+use Rattle.what_if.proofs.Calls.{number_refused, length_refused, byte_refused, sizes_decide}
 use Rattle.what_if.proofs.admit.judge.Goals as goal
 
 -- so many choices have so many bytes, and their sizes so many numbers
@@ -34,16 +34,9 @@ returns-in-Some c =
     let p = a.program.now in
     byte_refused (list_call p.table.now a.number a.choices.now a.buffer) p.ready.accepted_is c.if-wrong.false (c.if-choices-wanted.false ∙ bytes p a.number) c.first_outside.ensures c.in-Some.place c.in-Some.is
 
-pub returns-then-buffer-needed : goal.returns-then-buffer-needed
-unfolding wrong_number
-returns-then-buffer-needed c =
-    let a = c.args in
-    let p = a.program.now in
-    buffer_refused (list_call p.table.now a.number a.choices.now a.buffer) p.ready.accepted_is c.if-wrong.false (c.if-choices-wanted.false ∙ bytes p a.number) c.first_outside.ensures c.in_default.is _ (numbers p a.number c.entries.ensures) c.if-buffer-needed.true
-
 pub returns : goal.returns
 unfolding wrong_number
 returns c =
     let a = c.args in
     let p = a.program.now in
-    nothing_refused (list_call p.table.now a.number a.choices.now a.buffer) p.ready.accepted_is c.if-wrong.false (c.if-choices-wanted.false ∙ bytes p a.number) c.first_outside.ensures c.in_default.is _ (numbers p a.number c.entries.ensures) c.if-buffer-needed.false
+    c.judge_sizes.ensures ∙ sizes_decide (list_call p.table.now a.number a.choices.now a.buffer) p.ready.accepted_is c.if-wrong.false (c.if-choices-wanted.false ∙ bytes p a.number) c.first_outside.ensures c.in_default.is _ (numbers p a.number c.entries.ensures)
