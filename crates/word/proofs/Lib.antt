@@ -1,0 +1,2 @@
+-- For the crates above: the laws of a word's bits.
+pub mod Bits
