@@ -1,0 +1,2 @@
+-- What only helps proofs.
+pub mod Links
