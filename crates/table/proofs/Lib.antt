@@ -1,5 +1,6 @@
--- For the crates above: the laws of this one, and laws of tests, of numbers below a bound and of lists of checks that hold for any.
+-- For the crates above: the laws of this one, and laws of tests, of numbers below a bound, of lists of checks and of what `map` makes of an array.
 pub mod Laws
+pub mod Mapping
 pub mod Ready
 pub mod Booleans
 pub mod Below
