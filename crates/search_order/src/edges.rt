@@ -1,4 +1,4 @@
-// An order of a table's edges in which searches and sums along paths settle in few sweeps, whatever order their records stand
+// An order of a table's edges in which sums along paths settle in few sweeps, whatever order their records stand
 // in: that of a search in depth from the functions' first nodes, and then from the others. An edge stands before those that
 // were found beyond it: where no path comes back to its start, before all of them, so one sweep settles.
 // The search is a hint: nothing is promised of it, so no place needs a bound. What it writes is made sure of.

@@ -1,4 +1,4 @@
-// Orders of a table's edges and functions that a search finds, in which searches and rules settle quickly. Nothing else depends on them: what is
+// Orders of a table's edges and functions that a search finds, in which rules settle quickly. Nothing else depends on them: what is
 // promised is only that each edge and each function stands in its order.
 #![tactic(auto)]
 

@@ -3,9 +3,12 @@ pub mod Laws
 pub mod Paths
 pub mod Members
 -- How the promises come about.
-mod Collected
-mod Sweeps
-mod Leads
-mod Reaching
+mod Rooms
+mod Offering
+mod Leaving
+mod Looking
+mod Passing
+mod Closing
 mod Settling
+mod Calls
 mod Same

@@ -1,10 +1,7 @@
 -- Document 01, "Synchronising nodes": "The set is kept as one bit for each node, in 64-bit words: node n is bit n mod 64, lowest first, of
 -- word n div 64."
-use Rattle.std.specs.Prelude.{ℕ, ◌/◌, ◌%◌, ◌^◌, ◌<◌, ◌≡◌, List, Bool, eqb, length, get_or}
-
--- bit k of x, lowest first
-unfoldable pub bit : ℕ → ℕ → Bool
-bit x k = eqb (x / 2 ^ k % 2) 1
+use Rattle.std.specs.Prelude.{ℕ, ◌/◌, ◌%◌, ◌^◌, ◌<◌, ◌≡◌, List, Bool, length, get_or}
+pub use Rattle.word.specs.Bit.{bit}
 
 -- the set that the words keep; past the last word there is none
 unfoldable pub member : List ℕ → ℕ → Bool

@@ -13,7 +13,7 @@ use borrow.Author.Tests.{eq-eqb, ne_eqb}
 use Rattle.std.specs.Prelude.{◌↔◌}
 use Rattle.table.specs.Program.{program_of}
 use Rattle.sync.specs.Words.{bit}
-use Rattle.sync.proofs.Members.{bit_none}
+use Rattle.word.proofs.Bits.{bit_none}
 use Rattle.sizes.specs.Call.{choice_of, done, LeavesFor}
 use Rattle.safety.specs.Safety.{Safe}
 use Rattle.safety.specs.Test.{Tells}

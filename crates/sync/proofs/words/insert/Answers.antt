@@ -4,4 +4,4 @@ use borrow.Author.Rules.{rules}
 use Rattle.sync.proofs.words.insert.Goals as goal
 
 pub returns : goal.returns
-returns c = member_with c.args.set.now (search rules) c.args.n c.word_with.result (omega arith) c.word_with.ensures
+returns c = member_with c.args.set.now (search rules) c.args.n c.with.result (omega arith) c.with.ensures

@@ -1,5 +1,5 @@
 use native.Mathlib.Omega.{arith}
-use Rattle.sync.proofs.Members.{bit_set}
+use Rattle.word.proofs.Bits.{bit_set}
 use Rattle.what_if.proofs.sets.with_bit.Goals as goal
 
 pub returns : goal.returns
