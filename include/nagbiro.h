@@ -73,6 +73,22 @@ uint32_t nagbiro_synchronising(const uint8_t *table, size_t table_length,
                                uint64_t *words, size_t words_length, size_t *place);
 
 /*
+ * Gives the call order of the functions of a table: at each place stands the lowest-numbered
+ * function left each of whose call targets stands earlier or reaches it back by calls, by one call
+ * or more. So a called function comes before its callers, where no recursion joins the two. A call
+ * in any node of a function counts, a spawn in none, and an entry is a function like any other.
+ * Each function stands in the order once.
+ * Reads: table.
+ * Returns 0, and writes the numbers of the functions in that order to order, one byte for each: as
+ * many as there is room for, and never more than there are functions. Bytes past them and place
+ * are kept. Else returns the refusal, 1 to 8, and writes its place to place; order is kept.
+ * Needs: NAGBIRO_CALL_ORDER_STACK bytes of stack.
+ */
+#define NAGBIRO_CALL_ORDER_STACK (16 * 1024)
+uint32_t nagbiro_call_order(const uint8_t *table, size_t table_length,
+                            uint8_t *order, size_t order_length, size_t *place);
+
+/*
  * Says whether a choice is safe, and gives its sizes: for each function and then for each node
  * Total, Post, Pre and Through.
  * Reads: table; choice, one byte for each node.

@@ -35,6 +35,7 @@ static const uint8_t choices[] = {
 };
 
 static uint64_t words[NAGBIRO_WORDS];
+static uint8_t order[NAGBIRO_FUNCTIONS];
 static uint8_t verdicts[NAGBIRO_NODES];
 static uint32_t sizes[3 * NAGBIRO_SIZES];
 
@@ -70,6 +71,15 @@ int main(void)
     if (number != 0)
         return refused(number, place);
     printf("synchronising: %" PRIx64 "\n", words[0]);
+
+    /* Functions 1 and 2 are spawned and not called, so nothing comes before its turn. */
+    number = nagbiro_call_order(table, sizeof table, order, NAGBIRO_FUNCTIONS, &place);
+    if (number != 0)
+        return refused(number, place);
+    printf("call order:");
+    for (size_t i = 0; i < functions; i++)
+        printf(" %d", order[i]);
+    printf("\n");
 
     number = nagbiro_one_choice(table, sizeof table, guarded, sizeof guarded, sizes, NAGBIRO_SIZES, &safe, &place);
     if (number != 0)

@@ -36,6 +36,7 @@ struct table {
 static struct table case_a = {.name = "case A"}, full_size = {.name = "full size"};
 
 static uint64_t words[NAGBIRO_WORDS];
+static uint8_t order[NAGBIRO_FUNCTIONS];
 static uint8_t verdicts[NAGBIRO_NODES];
 static uint8_t choices[NAGBIRO_CHOICES * NAGBIRO_NODES];
 static uint32_t sizes[NAGBIRO_CHOICES * NAGBIRO_SIZES];
@@ -101,6 +102,13 @@ static uint32_t synchronising(const struct table *table)
     return nagbiro_synchronising(table->bytes, table->length, words, NAGBIRO_WORDS, &place);
 }
 
+static uint32_t call_order(const struct table *table)
+{
+    size_t place = 0;
+
+    return nagbiro_call_order(table->bytes, table->length, order, NAGBIRO_FUNCTIONS, &place);
+}
+
 static uint32_t one_choice(const struct table *table)
 {
     size_t place = 0;
@@ -139,6 +147,7 @@ struct call {
 static const struct call calls[] = {
     {"nagbiro_check", NAGBIRO_CHECK_STACK, check},
     {"nagbiro_synchronising", NAGBIRO_SYNCHRONISING_STACK, synchronising},
+    {"nagbiro_call_order", NAGBIRO_CALL_ORDER_STACK, call_order},
     {"nagbiro_one_choice", NAGBIRO_ONE_CHOICE_STACK, one_choice},
     {"nagbiro_what_if", NAGBIRO_WHAT_IF_STACK, what_if},
     {"nagbiro_best_choice", NAGBIRO_BEST_CHOICE_STACK, best_choice},

@@ -2,6 +2,7 @@
 use Rattle.std.specs.Prelude.{ℕ, ◌<◌, ◌≡◌, true, List, ◌++◌, ◌⊎◌, length, take, drop}
 use Rattle.table.specs.Answer.{Outcome, accepted, refused}
 use Rattle.table.specs.Program.{Program, program_of}
+use Rattle.call_order.specs.CallOrder.{places, CallOrder}
 use Rattle.sync.specs.Synchronising.{Synchronising}
 use Rattle.sync.specs.Words.{Eight, member}
 use Rattle.sizes.specs.Call.{Call, Result, choice_of, done, call_result}
@@ -24,6 +25,11 @@ pub record SetWords (g : Program) (words : List ℕ) : Type 0 where
 abbrev pub LeavesWords : List ℕ → Result → List ℕ → List ℕ → Type 0
 LeavesWords t done old new = (words : List ℕ) × SetWords (program_of t) words × (new ≡ take (length old) words ++ drop 8 old)
 LeavesWords t (call-refused number place) old new = new ≡ old
+
+-- the order buffer: one byte for each function in the call order, as many as there is room for, and the old bytes behind
+abbrev pub LeavesOrder : List ℕ → Result → List ℕ → List ℕ → Type 0
+LeavesOrder t done old new = (functions : List ℕ) × CallOrder (program_of t) (places functions) × (length functions ≡ (program_of t).functions) × (new ≡ take (length old) functions ++ drop (program_of t).functions old)
+LeavesOrder t (call-refused number place) old new = new ≡ old
 
 -- `safe` after the call for one choice: 1 for a safe choice, 0 for an unsafe one, and as it was where the call is refused
 abbrev pub JudgesFor : Result → Call → ℕ → ℕ → Type 0

@@ -8,8 +8,9 @@ ghost use Rattle.sizes.specs.Call.{call, call_result, LeavesFor};
 ghost use Rattle.choice.specs.Call.{best_call, best_result, LeavesBothFor};
 ghost use Rattle.nagbiro.specs.Codes.{table_result, code_of, Told};
 ghost use Rattle.what_if.specs.Call.{list_call, what_if_result, LeavesListFor};
-ghost use Rattle.nagbiro.specs.Left.{Counted, LeavesWords, Judges, JudgesList};
+ghost use Rattle.nagbiro.specs.Left.{Counted, LeavesWords, LeavesOrder, Judges, JudgesList};
 
+use call_order::call_order;
 use sync::synchronising;
 use table::check;
 use table::refusal::Refused;
@@ -40,13 +41,20 @@ pub extern "C" fn nagbiro_check(t: &[u8], a: &mut usize, b: &mut usize, c: &mut 
     }
 }
 
-// Writes the words of a set to a buffer: as many as there is room for. Says too that there are eight, of 64 bits each.
+// Writes a list to a buffer: as much of it as there is room for.
+fn write_front<T: Copy>(list: &[T], to: &mut [T])
+    ensures { to.new ≡ take (length to.old) list.now ++ drop (length list.now) to.old }
+{
+    let count = to.len().min(list.len());
+    to[..count].copy_from_slice(&list[..count]);
+}
+
+// Writes the words of a set to a buffer. Says too that there are eight, of 64 bits each.
 fn write_words(set: [u64; 8], words: &mut [u64])
     ensures eight { Eight set }
     ensures written { words.new ≡ take (length words.old) set ++ drop 8 words.old }
 {
-    let count = words.len().min(8);
-    words[..count].copy_from_slice(&set[..count]);
+    write_front(&set, words);
 }
 
 // Finds the synchronising nodes, one bit for each.
@@ -59,6 +67,21 @@ pub extern "C" fn nagbiro_synchronising(t: &[u8], words: &mut [u64], place: &mut
         Ok(known) => {
             let set = known.synchronising;
             write_words(set, words);
+            0
+        }
+        Err(refused) => tell(refused, place),
+    }
+}
+
+// Writes the functions in the call order, one byte for each.
+#[unsafe(no_mangle)]
+pub extern "C" fn nagbiro_call_order(t: &[u8], order: &mut [u8], place: &mut usize) -> u32
+    ensures told { Told (table_result (outcome t.now)) result place.old place.new }
+    ensures leaves { LeavesOrder t.now (table_result (outcome t.now)) order.old order.new }
+{
+    match call_order(t) {
+        Ok(found) => {
+            write_front(found.as_slice(), order);
             0
         }
         Err(refused) => tell(refused, place),

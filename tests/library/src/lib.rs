@@ -9,6 +9,13 @@ extern "C" {
         words_length: usize,
         place: *mut usize,
     ) -> u32;
+    pub fn nagbiro_call_order(
+        table: *const u8,
+        table_length: usize,
+        order: *mut u8,
+        order_length: usize,
+        place: *mut usize,
+    ) -> u32;
     pub fn nagbiro_one_choice(
         table: *const u8,
         table_length: usize,
