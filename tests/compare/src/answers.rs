@@ -1,9 +1,12 @@
-//! What the five calls answer to an input and leave in what they are lent: by the proved library, and by the second
+//! What the six calls answer to an input and leave in what they are lent: by the proved library, and by the second
 //! implementation.
 
 use crate::input::{Input, BEHIND};
 use crate::list::List;
-use nagbiro::{nagbiro_best_choice, nagbiro_check, nagbiro_one_choice, nagbiro_synchronising, nagbiro_what_if};
+use nagbiro::{
+    nagbiro_best_choice, nagbiro_call_order, nagbiro_check, nagbiro_one_choice, nagbiro_synchronising, nagbiro_what_if,
+};
+use second::call_order::written_order;
 use second::choice::best;
 use second::safety::one_choice;
 use second::sizes::numbers_needed;
@@ -15,6 +18,7 @@ use second::what_if::what_if;
 pub struct Answers {
     pub check: (u32, [usize; 3]),
     pub synchronising: (u32, usize, Vec<u64>),
+    pub call_order: (u32, usize, Vec<u8>),
     pub one_choice: (u32, usize, u32, Vec<u32>),
     pub what_if: (u32, usize, u16, Vec<u32>),
     pub one_by_one: OneByOne,
@@ -60,12 +64,21 @@ pub fn first(input: &Input) -> Answers {
         Answers {
             check: (check, [a, b, c]),
             synchronising: (synchronising, place_1, words),
+            call_order: first_call_order(input),
             one_choice: (one, place_2, safe, sizes_1),
             one_by_one: first_one_by_one(input, what_if.0, [a, b]),
             what_if,
             best_choice: (best, place_3, verdicts, sizes_2),
         }
     }
+}
+
+fn first_call_order(input: &Input) -> (u32, usize, Vec<u8>) {
+    let (mut place, mut order) = (input.numbers[3], input.order.clone());
+    let (to, room) = (order.as_mut_ptr(), told(&order));
+    // As above.
+    let number = unsafe { nagbiro_call_order(input.table.as_ptr(), input.table.len(), to, room, &mut place) };
+    (number, place, order)
 }
 
 fn first_what_if(input: &Input) -> (u32, usize, u16, Vec<u32>) {
@@ -129,6 +142,10 @@ pub fn second(input: &Input) -> Answers {
         }
         Err(&(number, place)) => (number, place, input.words.clone()),
     };
+    let call_order = match written_order(&input.table, told(&input.order)) {
+        Ok(order) => (0, old, written(&input.order, &order)),
+        Err((number, place)) => (number, place, input.order.clone()),
+    };
     let one_choice = match one_choice(&input.table, &input.choice, told(&input.sizes)) {
         Ok((safe, sizes)) => (0, old, safe as u32, written(&input.sizes, &sizes)),
         Err((number, place)) => (number, place, input.safe, input.sizes.clone()),
@@ -152,5 +169,5 @@ pub fn second(input: &Input) -> Answers {
         Ok((choice, sizes)) => (0, old, written(&input.verdicts, &choice), written(&input.sizes, &sizes)),
         Err((number, place)) => (number, place, input.verdicts.clone(), input.sizes.clone()),
     };
-    Answers { check, synchronising, one_choice, what_if, one_by_one, best_choice }
+    Answers { check, synchronising, call_order, one_choice, what_if, one_by_one, best_choice }
 }

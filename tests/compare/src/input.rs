@@ -1,6 +1,7 @@
 //! One input: a table, a choice, a list of choices and lent buffers, made from a seed and a number.
 
 use crate::list::{list, List};
+use crate::order::buffer;
 use crate::refused::{calls, count, field, records, refused, set_field, Records};
 use second::random::{self, record, Frames, Random, Shape, FULL};
 use second::sizes::numbers_needed;
@@ -21,13 +22,17 @@ pub struct Input {
     pub numbers: [usize; 4],
     pub safe: u32,
     pub list: List,
+    /// The buffer for the call order, as the others.
+    pub order: Vec<u8>,
 }
 
 #[derive(Clone, Copy, PartialEq, Eq, Debug)]
 pub enum Kind {
     /// A few functions, with recursion and loops. Frames of 0, of thousands, and around the ceiling.
     Small,
-    /// The same with neither recursion nor loops, and frames of 1 too.
+    /// A chain of up to 64 functions, nearly all by calls, mostly with recursion: short ways back, or long ones.
+    Calls,
+    /// Like small ones with neither recursion nor loops, and frames of 1 too.
     Straight,
     /// Recursion and loops with frames of 1. The second implementation takes many rounds.
     Crawling,
@@ -52,8 +57,9 @@ pub enum Kind {
 }
 
 /// The kinds, with how many of 10,000 inputs are of each. The large and the slow ones are few.
-pub const KINDS: [(Kind, usize); 12] = [
-    (Kind::Small, 3_899),
+pub const KINDS: [(Kind, usize); 13] = [
+    (Kind::Small, 3_699),
+    (Kind::Calls, 200),
     (Kind::Straight, 1_400),
     (Kind::Crawling, 2),
     (Kind::Deep, 400),
@@ -99,6 +105,16 @@ fn large_shape(random: &mut Random, kind: Kind, large: Shape) -> Shape {
             chain: true,
             ..large
         },
+        // With one node between first and exit, only the last function goes back.
+        Kind::Calls => Shape {
+            functions: 2 + random.below(63),
+            inner: 1 + random.below(3),
+            spawns: random.below(3),
+            recursion: !random.once_in(4),
+            chain: true,
+            back: [3, FULL[0]][random.below(2)],
+            ..large
+        },
         // A chain has as many functions as asked for.
         Kind::Many => Shape {
             functions: 2 + random.below(5),
@@ -139,7 +155,7 @@ fn shape(random: &mut Random, kind: Kind) -> Shape {
         Kind::Crawling => Shape { functions: 3, inner: 3, spawns: 2, frames: Frames::Small, ..some },
         Kind::Full | Kind::FullDamaged => Shape { inner: 5, spawns: random.below(6), fill: FULL, ..some },
         Kind::FullStraight => Shape { inner: 5, spawns: random.below(100), fill: FULL, ..straight },
-        Kind::Deep | Kind::Many | Kind::Limits | Kind::Last => large_shape(random, kind, large),
+        Kind::Calls | Kind::Deep | Kind::Many | Kind::Limits | Kind::Last => large_shape(random, kind, large),
     }
 }
 
@@ -344,6 +360,7 @@ pub fn input(seed: u64, number: u64) -> Input {
         numbers: [0; 4].map(|_| random.next() as usize),
         safe: random.next() as u32,
         list: list(&mut random, program.as_ref()),
+        order: buffer(&mut random, program.as_ref()),
     }
 }
 

@@ -7,6 +7,7 @@
 mod answers;
 mod input;
 mod list;
+mod order;
 mod refused;
 mod run;
 mod tally;
@@ -61,6 +62,7 @@ fn differs<T: PartialEq + Debug>(call: &str, first: &T, second: &T) -> Option<St
 fn difference(x: &Answers, y: &Answers) -> Option<String> {
     differs("check: number; a, b, c", &x.check, &y.check)
         .or_else(|| differs("synchronising: number, place; words", &x.synchronising, &y.synchronising))
+        .or_else(|| differs("call order: number, place; order", &x.call_order, &y.call_order))
         .or_else(|| differs("one choice: number, place; safe; sizes", &x.one_choice, &y.one_choice))
         .or_else(|| differs("what if: number, place; bits; sizes", &x.what_if, &y.what_if))
         .or_else(|| differs("what if, and each choice alone", &x.one_by_one, &y.one_by_one))
@@ -77,8 +79,9 @@ fn report(seed: u64, number: u64) {
     println!("difference at input {number} of seed {seed}, {:?}: {what}", input.kind);
     println!("  table: {}", hex(&input.table));
     println!("  choice: {}", hex(&input.choice));
-    let (words, verdicts, sizes) = (input.words.len(), input.verdicts.len(), input.sizes.len());
-    println!("  lengths: words {}, verdicts {}, sizes {}", words - BEHIND, verdicts - BEHIND, sizes - BEHIND);
+    let lengths = [input.words.len(), input.order.len(), input.verdicts.len(), input.sizes.len()];
+    let [words, order, verdicts, sizes] = lengths.map(|length| length - BEHIND);
+    println!("  lengths: words {words}, call order {order}, verdicts {verdicts}, sizes {sizes}");
     let (list, room) = (&input.list, input.list.sizes.len() - BEHIND);
     println!("  list, told {} choices and {room} sizes: {}", list.number, hex(&list.choices));
 }
@@ -121,18 +124,22 @@ mod tests {
             1 => x.check.1[2] ^= 1,
             2 => x.synchronising.1 ^= 1,
             3 => x.synchronising.2[0] ^= 1,
-            4 => x.one_choice.0 += 1,
-            5 => x.one_choice.2 ^= 1,
-            6 => *x.one_choice.3.last_mut().expect("a number") ^= 1,
-            7 => x.what_if.1 ^= 1,
-            8 => x.what_if.2 ^= 1 << 15,
-            9 => *x.what_if.3.last_mut().expect("a number") ^= 1,
-            10 => match &mut x.one_by_one {
+            4 => x.call_order.0 += 1,
+            5 => x.call_order.1 ^= 1,
+            6 => x.call_order.2[0] ^= 1,
+            7 => *x.call_order.2.last_mut().expect("a byte") ^= 1 << 7,
+            8 => x.one_choice.0 += 1,
+            9 => x.one_choice.2 ^= 1,
+            10 => *x.one_choice.3.last_mut().expect("a number") ^= 1,
+            11 => x.what_if.1 ^= 1,
+            12 => x.what_if.2 ^= 1 << 15,
+            13 => *x.what_if.3.last_mut().expect("a number") ^= 1,
+            14 => match &mut x.one_by_one {
                 Ok(all) => all.push((true, Vec::new())),
                 Err((_, place)) => *place ^= 1,
             },
-            11 => x.best_choice.1 ^= 1,
-            12 => x.best_choice.2[0] ^= 1,
+            15 => x.best_choice.1 ^= 1,
+            16 => x.best_choice.2[0] ^= 1,
             _ => x.best_choice.3[0] ^= 1,
         }
         x
@@ -143,7 +150,7 @@ mod tests {
         for number in 0..300 {
             let found = first(&input(1, number));
             assert_eq!(difference(&found, &found), None);
-            for which in 0..14 {
+            for which in 0..18 {
                 assert!(difference(&found, &wrong(&found, which)).is_some());
             }
         }
@@ -154,7 +161,7 @@ mod tests {
         for number in 0..100 {
             let (x, y) = (input(7, number), input(7, number));
             assert!(x.table == y.table && x.choice == y.choice && x.sizes == y.sizes);
-            assert!(x.list.choices == y.list.choices && x.list.sizes == y.list.sizes);
+            assert!(x.list.choices == y.list.choices && x.list.sizes == y.list.sizes && x.order == y.order);
             assert!(x.table != input(8, number).table);
         }
     }

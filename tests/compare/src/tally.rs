@@ -3,11 +3,14 @@
 use crate::answers::Answers;
 use crate::input::{Input, BEHIND, KINDS};
 use crate::list::{List, MOST};
+use crate::order::{has_ring_apart, longest_way_back, most_in_turn, with_spawns};
+use second::call_order::{call_order, reaching};
 use second::choice::{depths, order};
 use second::sizes::numbers_needed;
 use second::table::{check, Program, Sort};
+use std::cmp::Ordering;
 
-const CALLS: [&str; 5] = ["check", "synchronising", "one choice", "what if", "best choice"];
+const CALLS: [&str; 6] = ["check", "synchronising", "call order", "one choice", "what if", "best choice"];
 
 /// What is counted beside kinds and refusals.
 #[derive(Clone, Copy, PartialEq, Eq, Debug)]
@@ -44,10 +47,21 @@ enum Seen {
     SetsShort,
     SetsExact,
     SetsLonger,
+    OtherOrder,
+    OtherOrderOfAll,
+    InTurn,
+    BySpawns,
+    Recursion,
+    CallerFirst,
+    LongWayBack,
+    RingApart,
+    OrderShort,
+    OrderExact,
+    OrderLonger,
 }
 
 /// The least number of each in `COUNT` inputs.
-const SEEN: [(Seen, &str, u64); 32] = [
+const SEEN: [(Seen, &str, u64); 43] = [
     (Seen::Safe, "choices found safe", 60_000),
     (Seen::Unsafe, "choices found unsafe", 30_000),
     (Seen::WrongBytes, "choices with more than one wrong byte", 10_000),
@@ -80,13 +94,24 @@ const SEEN: [(Seen, &str, u64); 32] = [
     (Seen::SetsShort, "lists refused for sizes one number short", 5_000),
     (Seen::SetsExact, "accepted lists with just room for their sizes", 30_000),
     (Seen::SetsLonger, "accepted lists with more room than for their sizes", 30_000),
+    (Seen::OtherOrder, "call orders where a function stands before a lower-numbered one", 40_000),
+    (Seen::OtherOrderOfAll, "such orders of 64 functions", 1_000),
+    (Seen::InTurn, "call orders with ten in a row, each a lower-numbered caller of the one before", 1_200),
+    (Seen::BySpawns, "call orders that would be others if spawns were calls", 40_000),
+    (Seen::Recursion, "accepted tables where a function reaches itself by calls", 30_000),
+    (Seen::CallerFirst, "call orders where a function stands before one that it calls", 12_000),
+    (Seen::LongWayBack, "such orders where that one takes ten calls or more to reach it back", 600),
+    (Seen::RingApart, "call orders where functions that reach each other do not stand together", 6_000),
+    (Seen::OrderShort, "call orders cut off where the buffer ends", 10_000),
+    (Seen::OrderExact, "call orders with just room for them", 30_000),
+    (Seen::OrderLonger, "call orders with more room than for them", 90_000),
 ];
 
 /// The least number of inputs of a kind, and of each refusal of each call.
 const LEAST_OF_A_KIND: u64 = 20;
 const LEAST_REFUSALS: u64 = 1_500;
 
-#[derive(Clone, Default, PartialEq, Eq, Debug)]
+#[derive(Clone, PartialEq, Eq, Debug)]
 pub struct Tally {
     kinds: [u64; KINDS.len()],
     /// How often each number was returned by each of the calls.
@@ -94,13 +119,19 @@ pub struct Tally {
     seen: [u64; SEEN.len()],
 }
 
+impl Default for Tally {
+    fn default() -> Tally {
+        Tally { kinds: [0; KINDS.len()], numbers: [[0; 13]; CALLS.len()], seen: [0; SEEN.len()] }
+    }
+}
+
 /// The refusals of a call.
 fn refusals(call: usize) -> impl Iterator<Item = usize> {
     (1..=12).filter(move |&number| match number {
-        9 => call == 2 || call == 3,
-        10 => call == 4,
-        11 => call >= 2,
-        12 => call == 3,
+        9 => call == 3 || call == 4,
+        10 => call == 5,
+        11 => call >= 3,
+        12 => call == 4,
         _ => true,
     })
 }
@@ -120,7 +151,8 @@ impl Tally {
     pub fn add(&mut self, input: &Input, answers: &Answers) {
         self.kinds[input.kind as usize] += 1;
         let (list, best) = (answers.what_if.0, answers.best_choice.0);
-        let numbers = [answers.check.0, answers.synchronising.0, answers.one_choice.0, list, best];
+        let (set, order) = (answers.synchronising.0, answers.call_order.0);
+        let numbers = [answers.check.0, set, order, answers.one_choice.0, list, best];
         for (call, number) in numbers.into_iter().enumerate() {
             self.numbers[call][number as usize] += 1;
         }
@@ -152,6 +184,7 @@ impl Tally {
         let whole = input.choice.len() == program.nodes.len();
         self.see(Seen::WrongBytes, (whole && wrong_bytes(program, &input.choice).len() > 1) as usize);
         self.add_list(program, &input.list, answers);
+        self.add_order(program, input.order.len() - BEHIND);
         if answers.best_choice.0 == 0 {
             self.add_best(&spawns, &answers.best_choice.2);
         }
@@ -188,6 +221,25 @@ impl Tally {
             }
             _ => {}
         }
+    }
+
+    fn add_order(&mut self, program: &Program, room: usize) {
+        let (order, reaching) = (call_order(program), reaching(program));
+        let (functions, way_back) = (order.len(), longest_way_back(program, &order));
+        self.see(Seen::OtherOrder, !order.is_sorted() as usize);
+        self.see(Seen::OtherOrderOfAll, (!order.is_sorted() && functions == 64) as usize);
+        self.see(Seen::InTurn, (most_in_turn(program, &order) >= 10) as usize);
+        self.see(Seen::BySpawns, (with_spawns(program) != order) as usize);
+        self.see(Seen::Recursion, (0..functions).any(|f| reaching[f][f]) as usize);
+        self.see(Seen::CallerFirst, (way_back > 0) as usize);
+        self.see(Seen::LongWayBack, (way_back >= 10) as usize);
+        self.see(Seen::RingApart, has_ring_apart(&reaching, &order) as usize);
+        let seen = match room.cmp(&functions) {
+            Ordering::Less => Seen::OrderShort,
+            Ordering::Equal => Seen::OrderExact,
+            Ordering::Greater => Seen::OrderLonger,
+        };
+        self.see(seen, 1);
     }
 
     fn add_best(&mut self, spawns: &[usize], choice: &[u8]) {
@@ -280,9 +332,10 @@ mod tests {
         let all: Vec<Vec<usize>> = (0..CALLS.len()).map(|call| refusals(call).collect()).collect();
         assert_eq!(all[0], [1, 2, 3, 4, 5, 6, 7, 8]);
         assert_eq!(all[1], [1, 2, 3, 4, 5, 6, 7, 8]);
-        assert_eq!(all[2], [1, 2, 3, 4, 5, 6, 7, 8, 9, 11]);
-        assert_eq!(all[3], [1, 2, 3, 4, 5, 6, 7, 8, 9, 11, 12]);
-        assert_eq!(all[4], [1, 2, 3, 4, 5, 6, 7, 8, 10, 11]);
+        assert_eq!(all[2], [1, 2, 3, 4, 5, 6, 7, 8]);
+        assert_eq!(all[3], [1, 2, 3, 4, 5, 6, 7, 8, 9, 11]);
+        assert_eq!(all[4], [1, 2, 3, 4, 5, 6, 7, 8, 9, 11, 12]);
+        assert_eq!(all[5], [1, 2, 3, 4, 5, 6, 7, 8, 10, 11]);
     }
 
     #[test]

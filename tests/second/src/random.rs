@@ -60,6 +60,8 @@ pub struct Shape {
     /// Just so many functions, each with a call or spawn of the next one, and no other that leads forward: so the
     /// depths grow with the functions.
     pub chain: bool,
+    /// In a chain: calls and spawns of earlier functions go back to one of so many before, or to the function itself.
+    pub back: usize,
     /// At least so many functions, nodes and edges, whatever the numbers above say. Edges ask for loops here.
     pub fill: [usize; 3],
 }
@@ -76,6 +78,7 @@ impl Shape {
         loops: true,
         recursion: true,
         chain: false,
+        back: 3,
         fill: [0; 3],
     };
 }
@@ -160,8 +163,7 @@ fn functions(random: &mut Random, shape: Shape) -> (Vec<usize>, Vec<Function>) {
 /// The target of a call or spawn in f, a later function twice as often as any. None if there is none to be had.
 fn target(random: &mut Random, shape: Shape, f: usize, functions: usize) -> Option<usize> {
     if shape.recursion && (random.once_in(3) || f + 1 == functions) {
-        // In a chain the function itself, or one of the three before it.
-        return Some(if shape.chain { f - random.below(f.min(3) + 1) } else { random.below(functions) });
+        return Some(if shape.chain { f - random.below(f.min(shape.back) + 1) } else { random.below(functions) });
     }
     if shape.chain && f + 1 < functions {
         return Some(f + 1);
