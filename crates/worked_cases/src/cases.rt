@@ -3,6 +3,20 @@ use report::{OLD_SIZE, OLD_VERDICT, Page, kept};
 use sync::words::has;
 use table::check;
 
+// The functions in the call order.
+pub fn show_order(page: &mut Page, t: &[u8]) {
+    match call_order::call_order(t) {
+        Ok(found) => {
+            page.text("order");
+            for f in found.as_slice() {
+                page.number(usize::from(*f));
+            }
+            page.end();
+        }
+        Err(refused) => page.refused(refused),
+    }
+}
+
 // The nodes of a set.
 fn print_nodes(page: &mut Page, set: [u64; 8]) {
     for n in 0..512 {

@@ -1,5 +1,17 @@
-// The work that calls take. The counts are held by stored output, and not promised.
+// The work that calls take. The counts are held by stored output, and but for one not promised.
 use report::Page;
+
+// In how many passes over the functions the synchronising set is found, the one that adds nothing among them. Where no function reaches itself by
+// calls, that there are two at most is promised.
+pub fn show_set_passes(page: &mut Page, t: &[u8]) {
+    match sync::counted(t) {
+        Ok(settled) => {
+            page.show(settled.passes);
+            page.text(" passes\n");
+        }
+        Err(refused) => page.refused(refused),
+    }
+}
 
 // In how many passes the sizes of a choice are found. A loss of speed raises them: to some 65,540 on recursion and on a
 // loop that adds up, if entries do not leap to unbounded; to 500 on a line of nodes, if the edges are gone over against

@@ -6,8 +6,8 @@ mod cases;
 mod counts;
 mod names;
 
-use cases::{show_best, show_list, show_safety, show_sizes, show_sync};
-use counts::{show_passes, show_trials};
+use cases::{show_best, show_list, show_order, show_safety, show_sizes, show_sync};
+use counts::{show_passes, show_set_passes, show_trials};
 use names::Call;
 use report::{OLD_SIZE, OLD_VERDICT, Page};
 use script::{Failed, Line, Run, State, read_full};
@@ -22,6 +22,7 @@ fn show_call(page: &mut Page, call: Call, t: &[u8], run: &Run<'_>) {
     let sizes = &mut sizes[..usize::from(run.buffer).min(2400)];
     match call {
         Call::Table => page.checked(table::check(t)),
+        Call::Order => show_order(page, t),
         Call::Sync => show_sync(page, t),
         Call::Sizes => show_sizes(page, t, choice, sizes),
         Call::Safety => show_safety(page, t, choice, sizes),
@@ -30,6 +31,7 @@ fn show_call(page: &mut Page, call: Call, t: &[u8], run: &Run<'_>) {
             let mut verdicts = [OLD_VERDICT; 600];
             show_best(page, t, &mut verdicts[..choice.len().min(600)], sizes);
         }
+        Call::SetPasses => show_set_passes(page, t),
         Call::Passes => show_passes(page, t, choice),
         Call::Trials => show_trials(page, t),
     }
