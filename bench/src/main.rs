@@ -2,12 +2,10 @@
 //! proved library is the faster one. The choice of the second call is the best one. Then measures the call for a list of choices
 //! against a call for each of them: of a ratio above 1 the list is the faster one.
 
-mod tables;
-
+use bench::{tables, time::time};
 use nagbiro::{nagbiro_best_choice, nagbiro_one_choice, nagbiro_what_if};
 use second::random::Random;
 use second::table::Sort;
-use std::time::{Duration, Instant};
 
 extern "C" {
     fn nagbiro_best_effort(table: *const u8, table_length: usize, trials: *mut u32, passes: *mut u32) -> u32;
@@ -89,17 +87,6 @@ fn list_effort(table: &[u8], choices: &[u8], sizes: &mut [u32]) -> u32 {
     let mut passes = 0;
     unsafe { nagbiro_list_effort(table.as_ptr(), table.len(), LIST, c, choices.len(), s, sizes.len(), &mut passes) };
     passes
-}
-
-// What a call gives, and its time in milliseconds, from as many calls as fit into a third of a second.
-fn time<T>(mut call: impl FnMut() -> T) -> (T, f64) {
-    let start = Instant::now();
-    let (mut result, mut calls) = (call(), 1);
-    while start.elapsed() < Duration::from_millis(300) {
-        result = std::hint::black_box(call());
-        calls += 1;
-    }
-    (result, start.elapsed().as_secs_f64() * 1e3 / f64::from(calls))
 }
 
 fn rounds(table: &[u8], choice: &[u8]) -> u64 {

@@ -142,3 +142,24 @@ pub fn tables() -> Vec<Table> {
         spawns(),
     ]
 }
+
+// 64 functions in a line, each of which calls the next; the last one has a sync on its only path.
+fn chain(name: &'static str) -> Table {
+    let mut records = Records::default();
+    for function in 1..=64 {
+        let instruction = if function < 64 { (CALL, function) } else { (SYNC, 0) };
+        records.function(16, &[(PLAIN, 0), instruction, (PLAIN, 0)]);
+    }
+    records.table(name)
+}
+
+/// The tables whose synchronising sets are measured.
+pub fn set_tables() -> Vec<Table> {
+    vec![
+        case_a(),
+        chain("chain of 64, callers first"),
+        full_size("full size, no recursion", false),
+        full_size("full size, recursion", true),
+        line("line of 510, random", Order::Random),
+    ]
+}
