@@ -9,7 +9,7 @@ use lib.Dec.{eqb}
 use lib.ListN.{length, set, replicate, length-set}
 use lib.Seq.{get_or-set_same, get_or-set_other}
 use borrow.Author.Count.{below_more}
-use borrow.Author.Tests.{eq-eqb, eqb-true, ne_eqb}
+use borrow.Author.Tests.{eq-eqb, eqb-true, ne_eqb, not-true}
 use Rattle.std.specs.Prelude.{Option, None, Some, MatchOption, IsSome}
 use Rattle.table.specs.Below.{any, count}
 use Rattle.table.specs.Program.{Program}
@@ -24,7 +24,7 @@ use Rattle.call_order.specs.CallOrder.{Stands, MayCome, Next, places}
 use Rattle.call_order.specs.Rows.{joined, Targets, ReachOf, Due, Lowest}
 use Rattle.call_order.proofs.Reaching.{reaches_first}
 use Rattle.call_order.proofs.Standing.{UpTo, some_left, stands_wider, stands_same, next_same}
-use Rattle.call_order.proofs.Rows.{either_of, not_told}
+use Rattle.call_order.proofs.Rows.{either_of, zeros_all}
 
 -- The first i places have their functions, and these are the ones placed.
 pub record Placing (g : Program) (i : ℕ) (order : List ℕ) (placed : ℕ) : Type 0 where
@@ -74,7 +74,7 @@ module _ (g : Program) (formed : WellFormed g) (back waits : List ℕ) (r : Reac
         go (inl e) on =
             let w = any_which waited g.functions e in
             let falls = size_falls f w.0 exists (and_true_left _ _ w.2) in
-            on w.0 w.1 (not_told _ (and_true_right (joined waits f w.0) _ w.2)) (omega arith)
+            on w.0 w.1 (not-true _ (and_true_right (joined waits f w.0) _ w.2)) (omega arith)
         go (inr e) on = (f, exists, record { left = left; waited = λ h j. ⊎_elim (λ p. p) (λ (n : bit placed h ≡ false). absurd (not_both _ (any_some waited g.functions h (target h j) (rw (j, n) refl)) e)) (either_way (bit placed h)) })
           where
             target : (h : ℕ) → joined waits f h ≡ true → h < g.functions
@@ -115,15 +115,10 @@ pub placing_none : (g : Program) → Placing g 0 (replicate 64 0) 0
 placing_none g = record {
   long = refl;
   each = λ j l. absurd (omega arith);
-  zeros = λ j l. none 64 j;
+  zeros = λ j l. zeros_all 64 j;
   placed_stand = λ h e. not_both _ e (bit_none h);
   standing_placed = λ h s. absurd (omega (arith, s.1));
 }
-  where
-    none : (n j : ℕ) → places (replicate n 0) j ≡ 0
-    none zero j = refl
-    none (suc n) zero = refl
-    none (suc n) (suc j) = none n j
 
 module _ (g : Program) (i : ℕ) (order : List ℕ) (placed : ℕ) (p : Placing g i order placed) (room : i < 64) (f placed' : ℕ) (next : Next g (places order) i f) (put : (j : ℕ) → bit placed' j ≡ (eqb j f || bit placed j)) where
   abbrev new : List ℕ

@@ -2,7 +2,7 @@
 use Prim.Native.Nat.{ℕ, zero, suc, ◌+◌, ◌<◌, ◌≤◌}
 use mathlib.Core.Path.{◌≡◌, refl, sym, ap, ◌∙◌, subst}
 use mathlib.Core.List.{List}
-use mathlib.Core.Bool.{Bool, true, false, not, ◌&&◌, ◌||◌}
+use mathlib.Core.Bool.{Bool, true, false, ◌&&◌, ◌||◌}
 use mathlib.Core.Logic.{◌⊎◌, inl, inr, ⊎_elim}
 use native.Mathlib.Omega.{arith}
 use native.Mathlib.Decide.{ℕ_discrete, dec_lt}
@@ -10,17 +10,18 @@ use lib.Dec.{eqb}
 use lib.ListN.{length, set, replicate, length-set}
 use lib.Seq.{get_or-set_same, get_or-set_other}
 use borrow.Author.Count.{below_more}
-use borrow.Author.Tests.{eq-eqb, eqb-true}
+use borrow.Author.Tests.{eq-eqb, eqb-true, not-true}
 use Rattle.std.proofs.lemmas.List.{get_or_past}
 use Rattle.table.specs.Record.{call}
 use Rattle.table.specs.Program.{Program}
 use Rattle.table.specs.WellFormed.{WellFormed}
-use Rattle.table.proofs.Booleans.{not_both, not_not, or_true, and_true_left, and_true_right}
+use Rattle.table.proofs.Booleans.{not_both, or_true, and_true_left, and_true_right}
 use Rattle.table.proofs.Below.{last_or_before}
 use Rattle.word.specs.Bit.{bit}
 use Rattle.word.proofs.Bits.{bit_none}
 use Rattle.call_order.specs.Calls.{Calls, Reaches}
 use Rattle.call_order.specs.Calls.Reaches.{one, more}
+use Rattle.call_order.specs.CallOrder.{places}
 use Rattle.call_order.specs.Rows.{joined, one_way, Targets, ReachOf}
 use Rattle.call_order.proofs.Reaching.{reaches_on}
 
@@ -28,14 +29,15 @@ pub either_of : (a b : Bool) → (a || b) ≡ true → (a ≡ true) ⊎ (b ≡ t
 either_of true b h = inl refl
 either_of false b h = inr h
 
-pub not_told : (b : Bool) → not b ≡ true → b ≡ false
-not_told b h = sym (not_not b) ∙ ap not h
+-- of as many zeros each entry is 0, past them too
+pub zeros_all : (n i : ℕ) → places (replicate n 0) i ≡ 0
+zeros_all zero i = refl
+zeros_all (suc n) zero = refl
+zeros_all (suc n) (suc i) = zeros_all n i
 
 -- no function is joined to another
 pub joined_none : (n f h : ℕ) → joined (replicate n 0) f h ≡ false
-joined_none zero f h = bit_none h
-joined_none (suc n) zero h = bit_none h
-joined_none (suc n) (suc f) h = joined_none n f h
+joined_none n f h = ap (λ (x : ℕ). bit x h) (zeros_all n f) ∙ bit_none h
 
 -- nor is one past the last word
 pub joined_past : (rows : List ℕ) (f h : ℕ) → length rows ≤ f → joined rows f h ≡ false
@@ -113,7 +115,7 @@ module _ (g : Program) (back : List ℕ) (n : ℕ) (rows : List ℕ) (before : G
         called f h (inr t) = before.called f h t
 
         forth : (f h : ℕ) → ((f ≡ a) × (h ≡ b)) ⊎ (joined rows f h ≡ true) → joined back h f ≡ false
-        forth f h (inl e) = rw (e.0 ∙ owner_is, e.1 ∙ target_is) (not_told _ (and_true_right (eqb (g.sort n) call) _ it))
+        forth f h (inl e) = rw (e.0 ∙ owner_is, e.1 ∙ target_is) (not-true _ (and_true_right (eqb (g.sort n) call) _ it))
         forth f h (inr t) = before.forth f h t
 
 -- all nodes were looked at
