@@ -11,8 +11,10 @@ use Rattle.table.specs.Checks.{checks, Accepted}
 use Rattle.table.specs.Program.{program_of}
 use Rattle.table.proofs.Refusals.{whole_here, whole_pass, whole_passes, refusal_over_none}
 use Rattle.rules.specs.Rules.{entries}
-use Rattle.sizes.specs.Call.{done, refused, sizes_result}
-use Rattle.sizes.proofs.Calls.{told_refused, none_refused, table_accepted, last_row, sizes_fit}
+use Rattle.table.specs.Result.{done, refused}
+use Rattle.sizes.specs.Call.{sizes_result}
+use Rattle.table.proofs.Results.{told_refused, none_refused, table_accepted}
+use Rattle.sizes.proofs.Calls.{last_row, sizes_fit}
 use Rattle.choice.specs.Call.{BestCall, few_verdicts, buffer_checks, best_checks, best_result}
 
 module _ (x : BestCall) (a : Accepted x.table) where

@@ -10,11 +10,13 @@ use Rattle.table.specs.SameButEdges.{SameButEdges}
 use Rattle.table.proofs.Laws.{same_program}
 use Rattle.rules.specs.Choice.{ChoiceFor}
 use Rattle.rules.specs.Rules.{entries}
-use Rattle.sizes.specs.Call.{choice_of, result_of}
+use Rattle.table.specs.Result.{result_of}
+use Rattle.sizes.specs.Call.{choice_of}
 use Rattle.std.specs.Prelude.{Ok, Err}
 use Rattle.std.specs.Prelude.{Result as CodeResult}
 use Rattle.table.specs.declared.refusal.Refused.{Refused}
-use Rattle.sizes.proofs.Calls.{is_done, long_enough}
+use Rattle.table.proofs.Results.{is_done}
+use Rattle.sizes.proofs.Calls.{long_enough}
 use Rattle.choice.specs.Beats.{Best, Returned}
 use Rattle.choice.specs.Call.{best_call, best_result, LeavesBoth}
 use Rattle.choice.proofs.Calls.{sizes_decide}

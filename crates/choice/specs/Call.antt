@@ -5,7 +5,8 @@ use Rattle.table.specs.Checks.{checks}
 use Rattle.table.specs.Program.{program_of}
 use Rattle.size.specs.Numbers.{Written}
 use Rattle.rules.specs.Rules.{entries}
-use Rattle.sizes.specs.Call.{choice_of, sizes_row, Result, done, refused, result_for, result_of, LeavesFor}
+use Rattle.table.specs.Result.{Result, done, refused, result_for, result_of}
+use Rattle.sizes.specs.Call.{choice_of, sizes_row, LeavesFor}
 use Rattle.std.specs.Prelude.{Result as CodeResult}
 use Rattle.table.specs.declared.refusal.Refused.{Refused}
 use Rattle.choice.specs.Beats.{Returned}

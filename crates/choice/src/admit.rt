@@ -1,6 +1,6 @@
 // What the best-choice call is refused for.
 ghost use Rattle.std.specs.Prelude.{◌≡◌, IfOk};
-ghost use Rattle.sizes.specs.Call.{result_of};
+ghost use Rattle.table.specs.Result.{result_of};
 ghost use Rattle.sizes.specs.Known.{KnownFor};
 ghost use Rattle.choice.specs.Call.{best_call, best_result};
 

@@ -7,7 +7,7 @@ ghost use Rattle.std.specs.Prelude.{◌≡◌, ◌≤◌, length};
 ghost use Rattle.table.specs.Program.{program_of};
 ghost use Rattle.size.specs.Numbers.{at, Written};
 ghost use Rattle.rules.specs.Rules.{entries};
-ghost use Rattle.sizes.specs.Call.{result_of};
+ghost use Rattle.table.specs.Result.{result_of};
 ghost use Rattle.choice.specs.Call.{best_call, best_result, LeavesBoth};
 
 use admit::admit;

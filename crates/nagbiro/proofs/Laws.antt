@@ -9,8 +9,9 @@ use Rattle.table.specs.Refusal.{Check, Refusal, over, refusal}
 use Rattle.table.specs.Checks.{checks, Accepted}
 use Rattle.table.specs.Answer.{outcome, outcome_for}
 use Rattle.table.proofs.Refusals.{refusal_pass, refusal_here}
-use Rattle.sizes.specs.Call.{Call, done, call_result, result_for, call_checks, choice_checks}
-use Rattle.sizes.proofs.Calls.{told_done}
+use Rattle.table.specs.Result.{done, result_for}
+use Rattle.sizes.specs.Call.{Call, call_result, call_checks, choice_checks}
+use Rattle.table.proofs.Results.{told_done}
 use Rattle.choice.specs.Call.{BestCall, best_result, best_checks, buffer_checks}
 use Rattle.what_if.specs.Call.{ListCall, list_checks, what_if_checks, what_if_result}
 use Rattle.nagbiro.specs.Codes.{table_result, code_of}

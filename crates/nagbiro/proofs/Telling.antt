@@ -16,7 +16,8 @@ use Rattle.call_order.specs.CallOrder.{places, CallOrder}
 use Rattle.call_order.proofs.Laws.{same_order}
 use Rattle.sync.specs.Answer.{Sets}
 use Rattle.sync.specs.Words.{Eight}
-use Rattle.sizes.specs.Call.{Call, Result, choice_of, done, refused, call_result}
+use Rattle.table.specs.Result.{Result, done, refused}
+use Rattle.sizes.specs.Call.{Call, choice_of, call_result}
 use Rattle.safety.specs.Safety.{Safe}
 use Rattle.nagbiro.specs.Codes.{table_result, Told}
 use Rattle.nagbiro.specs.Left.{Counted, LeavesWords, LeavesOrder, Judges}

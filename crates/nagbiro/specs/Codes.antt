@@ -3,7 +3,7 @@ use Rattle.std.specs.Prelude.{ℕ, ◌≡◌}
 use Rattle.table.specs.Answer.{Outcome}
 use Rattle.table.specs.Answer.Outcome.{accepted}
 use Rattle.table.specs.Answer.Outcome.{refused as table_refused}
-use Rattle.sizes.specs.Call.{Result, done, refused}
+use Rattle.table.specs.Result.{Result, done, refused}
 
 -- what a call comes to that is handed a table and nothing else that can be refused
 abbrev pub table_result : Outcome → Result

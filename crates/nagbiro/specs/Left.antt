@@ -5,8 +5,9 @@ use Rattle.table.specs.Program.{Program, program_of}
 use Rattle.call_order.specs.CallOrder.{places, CallOrder}
 use Rattle.sync.specs.Synchronising.{Synchronising}
 use Rattle.sync.specs.Words.{Eight, member}
-use Rattle.sizes.specs.Call.{Call, Result, choice_of, done, call_result}
-use Rattle.sizes.specs.Call.{refused as call-refused}
+use Rattle.table.specs.Result.{Result, done}
+use Rattle.sizes.specs.Call.{Call, choice_of, call_result}
+use Rattle.table.specs.Result.{refused as call-refused}
 use Rattle.safety.specs.Safety.{Safe}
 use Rattle.what_if.specs.Call.{ListCall, what_if_result, Safeties}
 

@@ -4,7 +4,8 @@ use Rattle.std.specs.Prelude.{Result as CodeResult}
 use Rattle.table.specs.Answer.{number_of}
 use Rattle.table.specs.declared.refusal.Refused.{Refused}
 use Rattle.table.specs.Program.{program_of}
-use Rattle.sizes.specs.Call.{Call, choice_of, done, refused, call_result}
+use Rattle.table.specs.Result.{done, refused}
+use Rattle.sizes.specs.Call.{Call, choice_of, call_result}
 use Rattle.safety.specs.Safety.{Safe}
 
 -- "answers safe, unsafe, or refused": the checks decide first, those of a call with a choice and a sizes buffer

@@ -5,7 +5,8 @@ mod tests;
 
 ghost use Rattle.std.specs.Prelude.{◌≤◌, length};
 ghost use Rattle.rules.specs.Rules.{entries};
-ghost use Rattle.sizes.specs.Call.{call, choice_of, done, Leaves, LeavesFor};
+ghost use Rattle.table.specs.Result.{done};
+ghost use Rattle.sizes.specs.Call.{call, choice_of, Leaves, LeavesFor};
 ghost use Rattle.sizes.specs.Trials.{known_program, PreparedFor, StartsFor};
 ghost use Rattle.safety.specs.Call.{Answers};
 ghost use Rattle.safety.specs.Safety.{Safe};

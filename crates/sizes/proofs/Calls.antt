@@ -1,31 +1,31 @@
 -- The checks of a call with a choice and a sizes buffer, one after another.
 use Prim.Native.Nat.{ℕ, ◌<◌, ◌≤◌}
-use mathlib.Core.Path.{◌≡◌, refl, sym, ap, ◌∙◌, subst}
+use mathlib.Core.Path.{◌≡◌, refl, sym, ◌∙◌, subst}
 use mathlib.Core.Bool.{Bool, true, false, true≢false, not, ◌&&◌, ◌||◌}
-use mathlib.Core.List.{List, [], ◌∷◌, ◌++◌, map, Memᴰ}
+use mathlib.Core.List.{List, [], ◌∷◌, map, Memᴰ}
 use Rattle.std.specs.Prelude.{cond, Option, None, Some, option_map}
 use Rattle.std.specs.Option.{option_or}
-use Rattle.table.proofs.Booleans.{some_not_none}
 use lib.Dec.{eqb, leb, ltb}
 use lib.ListN.{length, drop}
 use borrow.Author.Tests.{eq-eqb, ne_eqb, eqb-true, le-ltb, ltb-false, leb-true, not-false}
 use Rattle.table.specs.Below.{earliest}
 use Rattle.table.specs.Record.{spawn}
-use Rattle.table.specs.Refusal.{Check, Refusal, over, refused_at, refusal}
+use Rattle.table.specs.Refusal.{Check, refused_at, refusal}
 use Rattle.std.specs.Prelude.{Ok, Err}
 use Rattle.std.specs.Prelude.{Result as CodeResult}
-use Rattle.table.specs.Answer.{number_of, outcome, outcome_of}
+use Rattle.table.specs.Answer.{outcome, outcome_of}
 use Rattle.table.specs.declared.refusal.Refused.{Refused}
-use Rattle.table.proofs.Laws.{answer_accepted, answer_refused}
 use Rattle.sync.specs.Found.{counts_found}
 use Rattle.table.specs.Checks.{checks, Accepted}
 use Rattle.table.specs.Program.{program_of}
 use Rattle.sync.specs.Words.{member}
 use Rattle.table.proofs.Booleans.{or_false, and_true_left, and_true_right}
-use Rattle.table.proofs.Refusals.{refusal_pass, refusal_here, whole_here, whole_pass, whole_passes, each_passes, refusal_over_none, refusal_over_some}
+use Rattle.table.proofs.Refusals.{refusal_pass, refusal_here, whole_here, whole_pass, whole_passes, each_passes, refusal_over_none}
 use Rattle.rules.specs.Choice.{unmerged, unguarded, ChoiceFor}
 use Rattle.rules.specs.Rules.{entries, LeastSizes}
-use Rattle.sizes.specs.Call.{Call, choice_of, wrong_length, outside, sizes_row, sizes_result, choice_checks, call_checks, Result, done, refused, result_for, table_result, call_result, result_of}
+use Rattle.sizes.specs.Call.{Call, choice_of, wrong_length, outside, sizes_row, sizes_result, choice_checks, call_checks, call_result}
+use Rattle.table.specs.Result.{done, refused, result_for, result_of, table_result}
+use Rattle.table.proofs.Results.{told_refused, none_refused, table_accepted, checked_result}
 use Rattle.sizes.specs.Known.{KnownFor}
 use Rattle.sizes.specs.Trials.{known_program, FoundFor}
 use Rattle.sync.specs.declared.Known.{Known}
@@ -33,51 +33,10 @@ use Rattle.size.specs.Size.{value_of}
 use Rattle.size.specs.Numbers.{at, Written}
 use Rattle.solver.specs.declared.solution.Solution.{Solution}
 
--- ---- any list of checks
-
-abbrev pub is_done : Result → Bool
-is_done done = true
-is_done (refused n p) = false
-
-module _ {X : Type 0} (cs : List (Check X)) (x : X) where
-  pub told_refused : (n p : ℕ) → refusal cs x ≡ Some (refused_at n p) → refused n p ≡ result_for (refusal cs x)
-  unfolding result_for
-  told_refused n p e = ap result_for (sym e)
-
-  pub told_done : refusal cs x ≡ None → done ≡ result_for (refusal cs x)
-  unfolding result_for
-  told_done e = ap result_for (sym e)
-
-  pub none_refused : done ≡ result_for (refusal cs x) → refusal cs x ≡ None
-  unfolding result_for
-  none_refused e = go (refusal cs x) refl
-    where
-      go : (o : Option Refusal) → refusal cs x ≡ o → refusal cs x ≡ None
-      go None q = q
-      go (Some r) q = absurd (true≢false (ap is_done (e ∙ ap result_for q)))
-
 -- what the table's check finds is what the checks of a table say
 pub looked_result : (t : List ℕ) (r : CodeResult Known Refused) → outcome_of (counts_found r) ≡ outcome t → result_of r ≡ table_result t
-unfolding table_result
-looked_result t (Ok known) e = told_done checks t (answer_accepted t known.program.of e).accepted_is
-looked_result t (Err r) e = told_refused checks t (number_of r.cause) r.place (answer_refused t r e)
-
--- where those on the table come first: the first of them that applies decides, and the table is accepted if none of all does
-module _ {X : Type 0} (table : X → List ℕ) (cs : List (Check X)) (x : X) where
-  pub table_refused : {n p : ℕ} → refused n p ≡ table_result (table x) → refused n p ≡ result_for (refusal (map (over table) checks ++ cs) x)
-  unfolding table_result result_for
-  table_refused {n} {p} e = go (refusal checks (table x)) refl
-    where
-      go : (o : Option Refusal) → refusal checks (table x) ≡ o → refused n p ≡ result_for (refusal (map (over table) checks ++ cs) x)
-      go None q = absurd (true≢false (sym (ap is_done (e ∙ ap result_for q))))
-      go (Some r) q = e ∙ ap result_for (q ∙ sym (refusal_over_some table cs x checks q))
-
-  pub table_accepted : refusal (map (over table) checks ++ cs) x ≡ None → Accepted (table x)
-  table_accepted e = go (refusal checks (table x)) refl
-    where
-      go : (o : Option Refusal) → refusal checks (table x) ≡ o → refusal checks (table x) ≡ None
-      go None q = q
-      go (Some r) q = absurd (some_not_none r (sym (refusal_over_some table cs x checks q) ∙ e))
+looked_result t (Ok known) e = checked_result t (Ok known.program.of) e
+looked_result t (Err r) e = checked_result t (Err r) e
 
 -- the row of the sizes buffer: it decides where it is the last one left, and what nothing refuses fits
 module _ {X : Type 0} (needed buffer : X → ℕ) (x : X) (cs : List (Check X)) where

@@ -1,15 +1,14 @@
 -- Document 01, "Refused tables": the checks of a call that is handed a choice and a sizes buffer, and what it answers.
-use Rattle.std.specs.Prelude.{ℕ, ◌≡◌, Bool, cond, not, ◌&&◌, ◌||◌, List, [], ◌∷◌, ◌++◌, map, eqb, leb, ltb, length, get_or, Option, None, Some}
-use Rattle.table.specs.Refusal.{Check, Refusal, of_whole, of_each, over, refusal}
+use Rattle.std.specs.Prelude.{ℕ, ◌≡◌, Bool, cond, not, ◌&&◌, ◌||◌, List, [], ◌∷◌, ◌++◌, map, eqb, leb, ltb, length, get_or}
+use Rattle.table.specs.Refusal.{Check, of_whole, of_each, over, refusal}
 use Rattle.table.specs.Record.{spawn}
 use Rattle.table.specs.Checks.{checks}
 use Rattle.table.specs.Program.{program_of}
+use Rattle.table.specs.Result.{Result, done, refused, result_for, result_of}
 use Rattle.rules.specs.Choice.{unmerged, unguarded}
 use Rattle.rules.specs.Rules.{entries, LeastSizes}
 use Rattle.size.specs.Numbers.{Written}
-use Rattle.std.specs.Prelude.{Ok, Err}
 use Rattle.std.specs.Prelude.{Result as CodeResult}
-use Rattle.table.specs.Answer.{number_of}
 use Rattle.table.specs.declared.refusal.Refused.{Refused}
 
 pub record Call : Type 0 where
@@ -53,30 +52,13 @@ choice_checks =
 unfoldable pub call_checks : List (Check Call)
 call_checks = map (over (λ (x : Call). x.table)) checks ++ choice_checks
 
--- what a call comes to
-pub data Result : Type 0 where
-  done : Result
-  refused : (number place : ℕ) → Result
-
-unfoldable pub result_for : Option Refusal → Result
-result_for None = done
-result_for (Some r) = refused r.number r.place
-
 -- where no check applies but perhaps that of the sizes buffer
 abbrev pub sizes_result : (needed buffer : ℕ) → Result
 sizes_result needed buffer = cond (ltb buffer needed) (refused 11 needed) done
 
--- by the checks on its table alone, and by all of them
-unfoldable pub table_result : List ℕ → Result
-table_result t = result_for (refusal checks t)
-
+-- what the call comes to
 unfoldable pub call_result : Call → Result
 call_result x = result_for (refusal call_checks x)
-
--- what each case of the answer says
-abbrev pub result_of : {X : Type 0} → CodeResult X Refused → Result
-result_of (Ok x) = done
-result_of (Err r) = refused (number_of r.cause) r.place
 
 -- What the call leaves in the sizes buffer: the least sizes, and the old numbers past them; and "A refusal writes nothing."
 abbrev pub LeavesFor : List ℕ → List ℕ → List ℕ → Result → List ℕ → Type 0

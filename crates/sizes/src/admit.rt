@@ -1,7 +1,8 @@
 // What a call that is handed a choice and a sizes buffer is refused for.
 ghost use Rattle.std.specs.Prelude.{◌≡◌, ◌<◌, IfOk};
 ghost use Rattle.table.specs.Below.{earliest};
-ghost use Rattle.sizes.specs.Call.{call, choice_of, outside, call_result, result_of, sizes_result, table_result};
+ghost use Rattle.table.specs.Result.{result_of, table_result};
+ghost use Rattle.sizes.specs.Call.{call, choice_of, outside, call_result, sizes_result};
 ghost use Rattle.sizes.specs.Known.{KnownFor};
 
 use program::Program;

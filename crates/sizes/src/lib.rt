@@ -7,7 +7,8 @@ pub mod find;
 pub mod trials;
 
 ghost use Rattle.std.specs.Prelude.{◌≡◌, length};
-ghost use Rattle.sizes.specs.Call.{call, call_result, result_of, Leaves};
+ghost use Rattle.table.specs.Result.{result_of};
+ghost use Rattle.sizes.specs.Call.{call, call_result, Leaves};
 
 use admit::admit;
 use find::{find, write};

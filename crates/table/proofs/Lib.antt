@@ -5,6 +5,7 @@ pub mod Ready
 pub mod Booleans
 pub mod Below
 pub mod Refusals
+pub mod Results
 -- How the laws come about.
 mod Rows
 mod Fields

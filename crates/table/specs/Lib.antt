@@ -5,6 +5,7 @@ pub mod Record
 pub mod Kind
 pub mod Checks
 pub mod Answer
+pub mod Result
 pub mod Program
 pub mod WellFormed
 pub mod SameButEdges

@@ -13,7 +13,7 @@ use Rattle.table.specs.declared.refusal.Refused.{Refused}
 use Rattle.program.specs.declared.Program.{Program as CodeProgram}
 use Rattle.size.specs.Numbers.{at}
 use Rattle.rules.specs.Rules.{entries}
-use Rattle.sizes.specs.Call.{result_of}
+use Rattle.table.specs.Result.{result_of}
 use Rattle.choice.specs.Call.{best_call, best_result, LeavesBest, LeavesBoth}
 use Rattle.choice.proofs.Laws.{one_returned}
 use Rattle.text.specs.Chosen.{text_of}

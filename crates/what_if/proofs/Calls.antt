@@ -13,8 +13,10 @@ use Rattle.table.specs.Below.{earliest}
 use Rattle.table.specs.Refusal.{refusal}
 use Rattle.table.specs.Checks.{checks, Accepted}
 use Rattle.table.proofs.Refusals.{refusal_pass, refusal_here, whole_here, whole_pass, whole_passes, each_passes, refusal_over_none}
-use Rattle.sizes.specs.Call.{done, refused, sizes_result}
-use Rattle.sizes.proofs.Calls.{told_refused, none_refused, table_accepted, last_row, sizes_fit}
+use Rattle.table.specs.Result.{done, refused}
+use Rattle.sizes.specs.Call.{sizes_result}
+use Rattle.table.proofs.Results.{told_refused, none_refused, table_accepted}
+use Rattle.sizes.proofs.Calls.{last_row, sizes_fit}
 use Rattle.table.proofs.Booleans.{or_false_right}
 use Rattle.what_if.specs.Fits.{Fits}
 use Rattle.what_if.specs.Call.{ListCall, wrong_number, wanted, wrong_list, outside_list, needed, list_checks, what_if_checks, what_if_result}

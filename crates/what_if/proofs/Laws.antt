@@ -19,8 +19,10 @@ use Rattle.table.proofs.Booleans.{same_test, not_both}
 use Rattle.table.proofs.Below.{earliest_none, earliest_some, earliest_found, earliest_passed, earliest_before}
 use Rattle.size.specs.Numbers.{at}
 use Rattle.sync.specs.Words.{bit}
-use Rattle.sizes.specs.Call.{Call, call, choice_of, outside, Result, done, refused, sizes_result, call_result, LeavesFor}
-use Rattle.sizes.proofs.Calls.{is_done, long_enough, byte_refused, sizes_decide}
+use Rattle.table.specs.Result.{Result, done, refused}
+use Rattle.sizes.specs.Call.{Call, call, choice_of, outside, sizes_result, call_result, LeavesFor}
+use Rattle.table.proofs.Results.{is_done}
+use Rattle.sizes.proofs.Calls.{long_enough, byte_refused, sizes_decide}
 use Rattle.sizes.proofs.Laws.{sizes_unique}
 use Rattle.safety.specs.Call.{Answers as SafetyAnswers}
 use Rattle.what_if.specs.Call.{ListCall, nodes_of, entries_of, part, wrong_number, wanted, outside_list, needed, what_if_result, Safeties, Answers, LeavesSets}

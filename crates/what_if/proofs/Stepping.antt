@@ -14,7 +14,8 @@ use Rattle.std.specs.Prelude.{◌↔◌}
 use Rattle.table.specs.Program.{program_of}
 use Rattle.sync.specs.Words.{bit}
 use Rattle.word.proofs.Bits.{bit_none}
-use Rattle.sizes.specs.Call.{choice_of, done, LeavesFor}
+use Rattle.table.specs.Result.{done}
+use Rattle.sizes.specs.Call.{choice_of, LeavesFor}
 use Rattle.safety.specs.Safety.{Safe}
 use Rattle.safety.specs.Test.{Tells}
 use Rattle.what_if.specs.Call.{nodes_of, entries_of, part, Safeties, LeavesSets}

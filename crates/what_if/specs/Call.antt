@@ -8,7 +8,8 @@ use Rattle.table.specs.Answer.{number_of}
 use Rattle.table.specs.declared.refusal.Refused.{Refused}
 use Rattle.sync.specs.Words.{bit}
 use Rattle.rules.specs.Rules.{entries}
-use Rattle.sizes.specs.Call.{choice_of, outside, sizes_row, Result, done, refused, result_for, result_of, LeavesFor}
+use Rattle.table.specs.Result.{Result, done, refused, result_for, result_of}
+use Rattle.sizes.specs.Call.{choice_of, outside, sizes_row, LeavesFor}
 use Rattle.safety.specs.Safety.{Safe}
 
 -- "They hand in a number of choices and then the choices, one after another"

@@ -1,7 +1,7 @@
 // What a call with a list of choices is refused for.
 ghost use Rattle.std.specs.Prelude.{◌≡◌, ◌<◌, IfOk, length};
 ghost use Rattle.table.specs.Below.{earliest};
-ghost use Rattle.sizes.specs.Call.{result_of};
+ghost use Rattle.table.specs.Result.{result_of};
 ghost use Rattle.sizes.specs.Known.{KnownFor};
 ghost use Rattle.what_if.specs.Call.{list_call, outside_list, what_if_result};
 

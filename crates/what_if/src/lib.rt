@@ -5,7 +5,7 @@ mod admit;
 mod sets;
 
 ghost use Rattle.std.specs.Prelude.{◌≡◌, IfOk, length};
-ghost use Rattle.sizes.specs.Call.{result_of};
+ghost use Rattle.table.specs.Result.{result_of};
 ghost use Rattle.sizes.specs.Trials.{PreparedFor};
 ghost use Rattle.what_if.specs.Call.{list_call, what_if_result, Answers, LeavesList, LeavesSets, Safeties};
 ghost use Rattle.what_if.specs.Fits.{Fits};

@@ -1,5 +1,5 @@
 use Rattle.std.proofs.lemmas.Result.{err_from_is_err_and}
-use Rattle.sizes.proofs.Calls.{table_refused}
+use Rattle.table.proofs.Results.{table_refused}
 use Rattle.choice.specs.Call.{best_call, best_checks, best_result}
 use Rattle.choice.proofs.admit.admit.Goals as goal
 

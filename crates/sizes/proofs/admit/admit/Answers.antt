@@ -1,6 +1,6 @@
 use Rattle.std.proofs.lemmas.Result.{err_from_is_err_and}
 use Rattle.sizes.specs.Call.{call, call_checks, call_result}
-use Rattle.sizes.proofs.Calls.{table_refused}
+use Rattle.table.proofs.Results.{table_refused}
 use Rattle.sizes.proofs.admit.admit.Goals as goal
 
 pub returns-in_err-known-clause-answer : goal.returns-in_err-known-clause-answer

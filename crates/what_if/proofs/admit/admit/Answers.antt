@@ -1,5 +1,5 @@
 use Rattle.std.proofs.lemmas.Result.{err_from_is_err_and}
-use Rattle.sizes.proofs.Calls.{table_refused}
+use Rattle.table.proofs.Results.{table_refused}
 use Rattle.what_if.specs.Call.{list_call, what_if_checks, what_if_result}
 use Rattle.what_if.proofs.admit.admit.Goals as goal
 

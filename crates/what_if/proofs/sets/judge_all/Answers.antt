@@ -4,7 +4,8 @@ use mathlib.Core.List.{List}
 use native.Mathlib.Omega.{arith}
 use lib.ListN.{length}
 use Rattle.table.specs.Program.{program_of}
-use Rattle.sizes.specs.Call.{choice_of, done, LeavesFor}
+use Rattle.table.specs.Result.{done}
+use Rattle.sizes.specs.Call.{choice_of, LeavesFor}
 use Rattle.safety.specs.Safety.{Safe}
 use Rattle.safety.specs.Test.{Tells}
 use Rattle.what_if.specs.Call.{nodes_of, entries_of, part, Safeties}
