@@ -6,7 +6,7 @@ use mathlib.Core.Bool.{true}
 use Rattle.std.specs.Prelude.{Some, Ok, Err}
 use lib.Dec.{eqb}
 use Rattle.table.specs.Refusal.{refused_at, refusal}
-use Rattle.table.specs.Record.{records, sort_of, field_a, field_b, field_c, functions, nodes, edges, node_sort, node_owner, node_target, plain}
+use Rattle.table.specs.Record.{records, kind_of, sort_of, field_a, field_b, field_c, functions, nodes, edges, node_sort, node_owner, node_target, plain}
 use Rattle.table.specs.Checks.{checks, Accepted}
 use Rattle.table.specs.Answer.{number_of, outcome, outcome_of, Ready}
 use Rattle.table.specs.Program.{program_of}
@@ -15,6 +15,7 @@ use Rattle.table.specs.SameButEdges.{SameButEdges, HasEdge}
 use Rattle.table.specs.declared.Counts.{Counts}
 use Rattle.table.specs.declared.refusal.Refused.{Refused}
 use Rattle.table.proofs.Fields as fields
+use Rattle.table.proofs.Rows as rows
 use Rattle.table.proofs.Accepted as accepted
 use Rattle.table.proofs.SameButEdges as same
 use Rattle.table.proofs.Answer as answer
@@ -71,6 +72,10 @@ module _ (t : List ℕ) (ok : Accepted t) where
 
   pub few_edges : edges t ≤ 1024
   few_edges = accepted.few_edges t ok
+
+  -- function f is record f
+  pub function_kind : (f : ℕ) → f < functions t → kind_of t f ≡ 1
+  function_kind = rows.function_kind_lem t ok
 
   -- every other fact that the checks see to
   pub well_formed : WellFormed (program_of t)

@@ -17,7 +17,7 @@ use Rattle.table.specs.Checks.{checks, broken, no_entry}
 use Rattle.table.specs.Answer.{outcome, outcome_for, accepted, refused, number_of, CountsOf}
 use Rattle.table.specs.declared.Counts.{Counts}
 use Rattle.table.specs.declared.refusal.Cause.{Cause}
-use Rattle.table.specs.declared.refusal.Cause.TheVariants.{Length, Unlisted, OutOfOrder, TooMany, NoEntry, Absent, Foreign, NotPlain, Choice, Verdicts, Sizes, Number}
+use Rattle.table.specs.declared.refusal.Cause.TheVariants.{Length, Unlisted, OutOfOrder, TooMany, NoEntry, Absent, Foreign, NotPlain, Choice, Verdicts, Sizes, Number, Line, Mentions}
 use Rattle.table.proofs.Below.{earliest_none, any_told}
 use Rattle.table.proofs.Booleans.{not_not}
 use Rattle.table.proofs.Refusals.{refusal_pass, refusal_here}
@@ -52,6 +52,8 @@ record_told Choice t l m e = earliest_none _ _ (λ k h. refl)
 record_told Verdicts t l m e = earliest_none _ _ (λ k h. refl)
 record_told Sizes t l m e = earliest_none _ _ (λ k h. refl)
 record_told Number t l m e = earliest_none _ _ (λ k h. refl)
+record_told Line t l m e = earliest_none _ _ (λ k h. refl)
+record_told Mentions t l m e = earliest_none _ _ (λ k h. refl)
 
 -- the first i of the rows do not apply to t, so that those after them decide
 pub record Past (t : List ℕ) (rows : List Cause) (i : ℕ) : Type 0 where

@@ -7,7 +7,7 @@ use Rattle.table.specs.Checks.{Accepted as IsAccepted}
 use Rattle.table.specs.declared.Counts.{Counts}
 use Rattle.table.specs.declared.refusal.Refused.{Refused}
 use Rattle.table.specs.declared.refusal.Cause.{Cause}
-use Rattle.table.specs.declared.refusal.Cause.TheVariants.{Length, Unlisted, OutOfOrder, TooMany, NoEntry, Absent, Foreign, NotPlain, Choice, Verdicts, Sizes, Number}
+use Rattle.table.specs.declared.refusal.Cause.TheVariants.{Length, Unlisted, OutOfOrder, TooMany, NoEntry, Absent, Foreign, NotPlain, Choice, Verdicts, Sizes, Number, Line, Mentions}
 
 -- accepted, with how many functions, nodes and edges there are; or refused, with the number and the place of "Refused tables"
 pub data Outcome : Type 0 where
@@ -37,6 +37,8 @@ number_of Choice = 9
 number_of Verdicts = 10
 number_of Sizes = 11
 number_of Number = 12
+number_of Line = 13
+number_of Mentions = 14
 
 -- what each case of the answer says
 abbrev pub outcome_of : Result Counts Refused → Outcome

@@ -1,7 +1,7 @@
 -- For the contracts of the passes over the records. Helps proofs only: no public promise rests on it.
 use Rattle.std.specs.Prelude.{ℕ, List, Bool, false, ◌&&◌, eqb, leb, Option, None}
 use Rattle.table.specs.declared.refusal.Cause.{Cause}
-use Rattle.table.specs.declared.refusal.Cause.TheVariants.{Length, Unlisted, OutOfOrder, TooMany, NoEntry, Absent, Foreign, NotPlain, Choice, Verdicts, Sizes, Number}
+use Rattle.table.specs.declared.refusal.Cause.TheVariants.{Length, Unlisted, OutOfOrder, TooMany, NoEntry, Absent, Foreign, NotPlain, Choice, Verdicts, Sizes, Number, Line, Mentions}
 use Rattle.table.specs.Below.{count}
 use Rattle.table.specs.Refusal.{of_whole}
 use Rattle.table.specs.Record.{records, kind_of, is_entry}
@@ -28,6 +28,8 @@ sought Choice = λ t r. false
 sought Verdicts = λ t r. false
 sought Sizes = λ t r. false
 sought Number = λ t r. false
+sought Line = λ t r. false
+sought Mentions = λ t r. false
 
 -- the place of the row for a cause, where it is about the table itself
 abbrev pub place_for : Cause → List ℕ → Option ℕ
@@ -43,3 +45,5 @@ place_for Choice = λ t. None
 place_for Verdicts = λ t. None
 place_for Sizes = λ t. None
 place_for Number = λ t. None
+place_for Line = λ t. None
+place_for Mentions = λ t. None

@@ -19,6 +19,8 @@ pub enum Cause {
     Verdicts,
     Sizes,
     Number,
+    Line,
+    Mentions,
 }
 
 // Its number is what a program in C is told.
@@ -39,6 +41,8 @@ impl From<Cause> for u32 {
             Cause::Verdicts => 10,
             Cause::Sizes => 11,
             Cause::Number => 12,
+            Cause::Line => 13,
+            Cause::Mentions => 14,
         }
     }
 }
