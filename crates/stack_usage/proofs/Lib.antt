@@ -1,0 +1,10 @@
+-- How the promises come about.
+pub mod Laws
+mod Calls
+mod Passing
+mod Mentions
+mod Listing
+mod Noting
+mod Reading
+mod Counting
+mod Setting
