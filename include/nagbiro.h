@@ -9,7 +9,7 @@
  *     length for one;
  *   - what a call writes overlaps nothing else that the call is lent.
  * A length of 0 is fine with any such pointer, and nothing is read or written there. Nothing is
- * asked of what a table, a choice or a buffer holds.
+ * asked of what a table, a choice, a name list, a report or a buffer holds.
  *
  * Every function returns 0, or the number of a refusal, and then what it gives of the place is
  * the place of that refusal. A refusal writes nothing but the place. No function allocates
@@ -59,6 +59,28 @@ extern "C" {
  */
 #define NAGBIRO_CHECK_STACK (16 * 1024)
 uint32_t nagbiro_check(const uint8_t *table, size_t table_length, size_t *a, size_t *b, size_t *c);
+
+/*
+ * Writes the byte counts of a compiler's stack-usage report into the frames of a table.
+ * Reads: table; names, one line for each function in number order, its name and nothing else;
+ * report, in each line a place that ends in a colon, the name of a function, a tab, a count in
+ * decimal, a tab and the word static, as GCC writes it with -fstack-usage. A name has 1 to 64 bytes,
+ * and no tab, colon or line feed among them. A place has no tab, and may be the colon alone. Every
+ * line of both ends in a line feed. Lines of the report whose name is not listed are passed over, but
+ * have to be of this form too.
+ * Returns 0, and writes the count of each function to its frame, two bytes of table. All else that
+ * stands in table, and place, is kept.
+ * Else returns the refusal, 1 to 8, 13 or 14, and writes its place to place; table is kept. 13 is
+ * given for a line that is not of its form, a count above 65,535, and a line too many or too few in
+ * names. Its place is that line, the number of functions where it is one too many; a line of the
+ * report has the number of functions added to its own. Then 14 is given for a function with no line
+ * in the report or more than one, and its place is the function.
+ * Needs: NAGBIRO_FRAMES_STACK bytes of stack.
+ */
+#define NAGBIRO_FRAMES_STACK (16 * 1024)
+uint32_t nagbiro_frames(uint8_t *table, size_t table_length,
+                        const uint8_t *names, size_t names_length,
+                        const uint8_t *report, size_t report_length, size_t *place);
 
 /*
  * Finds the synchronising nodes of a table: node n is bit n % 64, lowest first, of word n / 64.

@@ -5,6 +5,7 @@
  */
 #include <inttypes.h>
 #include <stdio.h>
+#include <string.h>
 
 #include "nagbiro.h"
 
@@ -34,6 +35,23 @@ static const uint8_t choices[] = {
     0, 3, 0, 1, 0, 0, 0,
 };
 
+/* The names of the functions, in number order, and what a compiler says of these and of another one. */
+static const char names[] = "main\nfan\ntray\n";
+static const char report[] =
+    "src/fan.c:12:6:fan\t48\tstatic\n"
+    "src/main.c:31:5:main\t64\tstatic\n"
+    "src/main.c:9:13:wait\t16\tstatic\n"
+    "src/tray.c:7:6:tray\t144\tstatic\n";
+
+/* Nothing of tray; and a frame whose size the compiler does not know. */
+static const char without_tray[] =
+    "src/fan.c:12:6:fan\t48\tstatic\n"
+    "src/main.c:31:5:main\t64\tstatic\n";
+static const char dynamic_fan[] =
+    "src/fan.c:12:6:fan\t48\tdynamic\n"
+    "src/main.c:31:5:main\t64\tstatic\n"
+    "src/tray.c:7:6:tray\t144\tstatic\n";
+
 static uint64_t words[NAGBIRO_WORDS];
 static uint8_t order[NAGBIRO_FUNCTIONS];
 static uint8_t verdicts[NAGBIRO_NODES];
@@ -54,6 +72,26 @@ static int refused(uint32_t number, size_t place)
 {
     printf("refused %" PRIu32 " at %zu\n", number, place);
     return 1;
+}
+
+/* Gives a copy of the table the frames that a report says. */
+static void print_frames(const char *text)
+{
+    uint8_t copy[sizeof table];
+    size_t place = 0;
+    uint32_t number;
+
+    memcpy(copy, table, sizeof table);
+    number = nagbiro_frames(copy, sizeof copy, (const uint8_t *)names, strlen(names),
+                            (const uint8_t *)text, strlen(text), &place);
+    if (number != 0) {
+        refused(number, place);
+        return;
+    }
+    printf("frames:");
+    for (size_t f = 0; f < 3; f++)
+        printf(" %d", copy[8 * f + 6] + 256 * copy[8 * f + 7]);
+    printf("\n");
 }
 
 int main(void)
@@ -115,5 +153,10 @@ int main(void)
     number = nagbiro_what_if(table, sizeof table, NAGBIRO_CHOICES + 1, choices, sizeof choices,
                              sizes, 3 * NAGBIRO_SIZES, &bits, &place);
     refused(number, place);
+
+    /* Function 2 has no line; and the first line of the report, line 3 with those of the names before it. */
+    print_frames(report);
+    print_frames(without_tray);
+    print_frames(dynamic_fan);
     return 0;
 }

@@ -31,12 +31,17 @@ struct table {
     /* The choice that merges every spawn and guards none. */
     uint8_t choice[NAGBIRO_NODES];
     size_t nodes;
+    /* A name list and a report for it, with names as long as they may be. */
+    char names[NAGBIRO_FUNCTIONS * 65 + 1];
+    char report[NAGBIRO_FUNCTIONS * 80 + 1];
+    size_t functions, names_length, report_length;
 };
 
 static struct table case_a = {.name = "case A"}, full_size = {.name = "full size"};
 
 static uint64_t words[NAGBIRO_WORDS];
 static uint8_t order[NAGBIRO_FUNCTIONS];
+static uint8_t altered[sizeof full_size.bytes];
 static uint8_t verdicts[NAGBIRO_NODES];
 static uint8_t choices[NAGBIRO_CHOICES * NAGBIRO_NODES];
 static uint32_t sizes[NAGBIRO_CHOICES * NAGBIRO_SIZES];
@@ -49,6 +54,20 @@ static void put(struct table *table, int kind, int sort, int a, int b, int c)
     table->length += sizeof record;
     if (kind == NODE)
         table->choice[table->nodes++] = sort == SPAWN ? NAGBIRO_UNGUARDED : NAGBIRO_NO_SPAWN;
+    if (kind == FUNCTION)
+        table->functions++;
+}
+
+static void make_files(struct table *table)
+{
+    char *names = table->names, *report = table->report;
+
+    for (size_t f = 0; f < table->functions; f++) {
+        names += sprintf(names, "%064zu\n", f);
+        report += sprintf(report, ":%064zu\t%zu\tstatic\n", f, 65535 - f);
+    }
+    table->names_length = names - table->names;
+    table->report_length = report - table->report;
 }
 
 static void make_case_a(struct table *table)
@@ -93,6 +112,15 @@ static uint32_t check(const struct table *table)
     size_t a = 0, b = 0, c = 0;
 
     return nagbiro_check(table->bytes, table->length, &a, &b, &c);
+}
+
+static uint32_t frames(const struct table *table)
+{
+    size_t place = 0;
+
+    memcpy(altered, table->bytes, table->length);
+    return nagbiro_frames(altered, table->length, (const uint8_t *)table->names, table->names_length,
+                          (const uint8_t *)table->report, table->report_length, &place);
 }
 
 static uint32_t synchronising(const struct table *table)
@@ -146,6 +174,7 @@ struct call {
 
 static const struct call calls[] = {
     {"nagbiro_check", NAGBIRO_CHECK_STACK, check},
+    {"nagbiro_frames", NAGBIRO_FRAMES_STACK, frames},
     {"nagbiro_synchronising", NAGBIRO_SYNCHRONISING_STACK, synchronising},
     {"nagbiro_call_order", NAGBIRO_CALL_ORDER_STACK, call_order},
     {"nagbiro_one_choice", NAGBIRO_ONE_CHOICE_STACK, one_choice},
@@ -243,6 +272,8 @@ int main(void)
     setvbuf(stdout, NULL, _IONBF, 0);
     make_case_a(&case_a);
     make_full_size(&full_size);
+    make_files(&case_a);
+    make_files(&full_size);
     if (!is_full(&full_size)) {
         printf("the larger table is not of full size\n");
         return 1;

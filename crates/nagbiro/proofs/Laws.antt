@@ -14,6 +14,7 @@ use Rattle.sizes.specs.Call.{Call, call_result, call_checks, choice_checks}
 use Rattle.table.proofs.Results.{told_done}
 use Rattle.choice.specs.Call.{BestCall, best_result, best_checks, buffer_checks}
 use Rattle.what_if.specs.Call.{ListCall, list_checks, what_if_checks, what_if_result}
+use Rattle.stack_usage.specs.Call.{FramesCall, usage_checks, frames_checks, frames_result}
 use Rattle.nagbiro.specs.Codes.{table_result, code_of}
 
 -- no check of a list has the number 0
@@ -54,6 +55,10 @@ list_numbered : Numbered what_if_checks
 unfolding what_if_checks list_checks
 list_numbered = numbered_over (λ (x : ListCall). x.table) checks list_checks table_numbered (search rules)
 
+usage_numbered : Numbered frames_checks
+unfolding frames_checks usage_checks
+usage_numbered = numbered_over (λ (x : FramesCall). x.table) checks usage_checks table_numbered (search rules)
+
 same_code : (t : List ℕ) (o : Option Refusal) → code_of (result_for o) ≡ code_of (table_result (outcome_for t o))
 unfolding result_for outcome_for
 same_code t None = refl
@@ -78,3 +83,8 @@ list_zero x e = told_done what_if_checks x (none_zero x what_if_checks list_numb
 pub best_zero : (x : BestCall) → code_of (best_result x) ≡ 0 → done ≡ best_result x
 unfolding best_result
 best_zero x e = told_done best_checks x (none_zero x best_checks buffers_numbered e)
+
+-- frames from a report
+pub frames_zero : (x : FramesCall) → code_of (frames_result x) ≡ 0 → done ≡ frames_result x
+unfolding frames_result
+frames_zero x e = told_done frames_checks x (none_zero x frames_checks usage_numbered e)

@@ -8,9 +8,12 @@ ghost use Rattle.sizes.specs.Call.{call, call_result, LeavesFor};
 ghost use Rattle.choice.specs.Call.{best_call, best_result, LeavesBothFor};
 ghost use Rattle.nagbiro.specs.Codes.{table_result, code_of, Told};
 ghost use Rattle.what_if.specs.Call.{list_call, what_if_result, LeavesListFor};
+ghost use Rattle.stack_usage.specs.Call.{frames_call, frames_result};
+ghost use Rattle.stack_usage.specs.Call.{LeavesFor as LeavesFrames};
 ghost use Rattle.nagbiro.specs.Left.{Counted, LeavesWords, LeavesOrder, Judges, JudgesList};
 
 use call_order::call_order;
+use stack_usage::frames;
 use sync::synchronising;
 use table::check;
 use table::refusal::Refused;
@@ -148,4 +151,21 @@ pub extern "C" fn nagbiro_best_choice(
         Ok(()) => 0,
         Err(why) => tell(why, place),
     }
+}
+
+// Frames from the compiler's report: writes what it counts for each function into the table's own frames.
+#[unsafe(no_mangle)]
+pub extern "C" fn nagbiro_frames(
+    t: &mut [u8],
+    names: &[u8],
+    report: &[u8],
+    place: &mut usize,
+) -> u32
+    ensures told { Told (frames_result (frames_call t.old names.now report.now)) result place.old place.new }
+    ensures leaves { LeavesFrames (frames_call t.old names.now report.now) t.old (frames_result (frames_call t.old names.now report.now)) t.new }
+{
+    if let Err(why) = frames(t, names, report) {
+        return tell(why, place);
+    }
+    0
 }

@@ -2,6 +2,15 @@
 
 extern "C" {
     pub fn nagbiro_check(table: *const u8, table_length: usize, a: *mut usize, b: *mut usize, c: *mut usize) -> u32;
+    pub fn nagbiro_frames(
+        table: *mut u8,
+        table_length: usize,
+        names: *const u8,
+        names_length: usize,
+        report: *const u8,
+        report_length: usize,
+        place: *mut usize,
+    ) -> u32;
     pub fn nagbiro_synchronising(
         table: *const u8,
         table_length: usize,
