@@ -18,6 +18,7 @@
 //     ? 7 40 0 3 0 3      a choice of 7 bytes, 0 3 0 3 0 0 0, and a buffer of 40 numbers
 #![tactic(auto)]
 
+mod files;
 mod input;
 mod numbers;
 mod records;
@@ -27,6 +28,7 @@ ghost use Rattle.script.specs.Line.{ReadsAs};
 ghost use Rattle.script.specs.State.{Takes};
 
 use arrayvec::ArrayVec;
+pub use files::{Unread, read_file, read_input};
 pub use input::{Failed, read_full};
 use numbers::Numbers;
 use records::Records;
