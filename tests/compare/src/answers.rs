@@ -1,17 +1,19 @@
-//! What the six calls answer to an input and leave in what they are lent: by the proved library, and by the second
+//! What the seven calls answer to an input and leave in what they are lent: by the proved library, and by the second
 //! implementation.
 
 use crate::input::{Input, BEHIND};
 use crate::list::List;
 use nagbiro::{
-    nagbiro_best_choice, nagbiro_call_order, nagbiro_check, nagbiro_one_choice, nagbiro_synchronising, nagbiro_what_if,
+    nagbiro_best_choice, nagbiro_call_order, nagbiro_check, nagbiro_frames, nagbiro_one_choice, nagbiro_synchronising,
+    nagbiro_what_if,
 };
 use second::call_order::written_order;
 use second::choice::best;
+use second::frames::frames;
 use second::safety::one_choice;
 use second::sizes::numbers_needed;
 use second::sync::synchronising;
-use second::table::{check, Refusal};
+use second::table::{check, Program, Refusal};
 use second::what_if::what_if;
 
 #[derive(PartialEq, Eq, Clone, Debug)]
@@ -23,6 +25,8 @@ pub struct Answers {
     pub what_if: (u32, usize, u16, Vec<u32>),
     pub one_by_one: OneByOne,
     pub best_choice: (u32, usize, Vec<u8>, Vec<u32>),
+    /// With the table as the call leaves it, and what stands behind it.
+    pub frames: (u32, usize, Vec<u8>),
 }
 
 /// What the call for one choice says of the choices of a list in turn, with room enough: whether each is safe, and its
@@ -69,6 +73,7 @@ pub fn first(input: &Input) -> Answers {
             one_by_one: first_one_by_one(input, what_if.0, [a, b]),
             what_if,
             best_choice: (best, place_3, verdicts, sizes_2),
+            frames: first_frames(input),
         }
     }
 }
@@ -79,6 +84,21 @@ fn first_call_order(input: &Input) -> (u32, usize, Vec<u8>) {
     // As above.
     let number = unsafe { nagbiro_call_order(input.table.as_ptr(), input.table.len(), to, room, &mut place) };
     (number, place, order)
+}
+
+/// The table, which is lent to the call for frames, with bytes behind it.
+fn lent_table(input: &Input, table: &[u8]) -> Vec<u8> {
+    [table, &input.files.behind].concat()
+}
+
+fn first_frames(input: &Input) -> (u32, usize, Vec<u8>) {
+    let (mut place, mut table) = (input.numbers[3], lent_table(input, &input.table));
+    let (names, report) = (&input.files.names, &input.files.report);
+    let (to, room) = (table.as_mut_ptr(), told(&table));
+    // As above.
+    let number =
+        unsafe { nagbiro_frames(to, room, names.as_ptr(), told(names), report.as_ptr(), told(report), &mut place) };
+    (number, place, table)
 }
 
 fn first_what_if(input: &Input) -> (u32, usize, u16, Vec<u32>) {
@@ -150,10 +170,20 @@ pub fn second(input: &Input) -> Answers {
         Ok((safe, sizes)) => (0, old, safe as u32, written(&input.sizes, &sizes)),
         Err((number, place)) => (number, place, input.safe, input.sizes.clone()),
     };
+    let (what_if, one_by_one) = second_what_if(input, &program);
+    let best_choice = match best(&input.table, told(&input.verdicts), told(&input.sizes)) {
+        Ok((choice, sizes)) => (0, old, written(&input.verdicts, &choice), written(&input.sizes, &sizes)),
+        Err((number, place)) => (number, place, input.verdicts.clone(), input.sizes.clone()),
+    };
+    let frames = second_frames(input);
+    Answers { check, synchronising, call_order, one_choice, what_if, one_by_one, best_choice, frames }
+}
+
+fn second_what_if(input: &Input, program: &Result<Program, Refusal>) -> ((u32, usize, u16, Vec<u32>), OneByOne) {
     let list = &input.list;
     let of_list = what_if(&input.table, list.number, &list.choices, told(&list.sizes));
     // "Each result equals that of the single call for the same choice."
-    let one_by_one = match (&program, &of_list) {
+    let one_by_one = match (program, &of_list) {
         (Ok(p), Ok((bits, sizes))) => {
             let sets = sizes.chunks(numbers_needed(p)).enumerate();
             Ok(sets.map(|(i, set)| (bits >> i & 1 == 1, set.to_vec())).collect())
@@ -162,12 +192,16 @@ pub fn second(input: &Input) -> Answers {
         _ => Ok(Vec::new()),
     };
     let what_if = match of_list {
-        Ok((bits, sizes)) => (0, old, bits, written(&list.sizes, &sizes)),
+        Ok((bits, sizes)) => (0, input.numbers[3], bits, written(&list.sizes, &sizes)),
         Err((number, place)) => (number, place, list.bits, list.sizes.clone()),
     };
-    let best_choice = match best(&input.table, told(&input.verdicts), told(&input.sizes)) {
-        Ok((choice, sizes)) => (0, old, written(&input.verdicts, &choice), written(&input.sizes, &sizes)),
-        Err((number, place)) => (number, place, input.verdicts.clone(), input.sizes.clone()),
-    };
-    Answers { check, synchronising, call_order, one_choice, what_if, one_by_one, best_choice }
+    (what_if, one_by_one)
+}
+
+fn second_frames(input: &Input) -> (u32, usize, Vec<u8>) {
+    let (names, report) = (&input.files.names, &input.files.report);
+    match frames(&input.table, &names[..told(names)], &report[..told(report)]) {
+        Ok(table) => (0, input.numbers[3], lent_table(input, &table)),
+        Err((number, place)) => (number, place, lent_table(input, &input.table)),
+    }
 }

@@ -1,5 +1,7 @@
-//! One input: a table, a choice, a list of choices and lent buffers, made from a seed and a number.
+//! One input: a table, a choice, a list of choices, a name list with a report, and lent buffers, made from a seed and a
+//! number.
 
+use crate::files::{files, Files};
 use crate::list::{list, List};
 use crate::order::buffer;
 use crate::refused::{calls, count, field, records, refused, set_field, Records};
@@ -24,6 +26,7 @@ pub struct Input {
     pub list: List,
     /// The buffer for the call order, as the others.
     pub order: Vec<u8>,
+    pub files: Files,
 }
 
 #[derive(Clone, Copy, PartialEq, Eq, Debug)]
@@ -361,6 +364,7 @@ pub fn input(seed: u64, number: u64) -> Input {
         safe: random.next() as u32,
         list: list(&mut random, program.as_ref()),
         order: buffer(&mut random, program.as_ref()),
+        files: files(&mut random, program.as_ref()),
     }
 }
 

@@ -1,15 +1,20 @@
-//! Compares the proved library with the second implementation on random tables, choices, lists of choices and buffers.
-//! Prints how many inputs of each kind were compared and what came up in them, or the first difference, and then ends
-//! with status 1. Options: `--count N`, `--seed S`, `--from N`, the number of the first input, and `--threads N`, which
-//! changes nothing but the time. With the usual count or more, it also ends with status 1 if something came up too
-//! seldom, which `tally.rs` says; with fewer inputs nothing is demanded of them.
+//! Compares the proved library with the second implementation on random tables, choices, lists of choices, name lists
+//! with reports, and buffers. Prints how many inputs of each kind were compared and what came up in them, or the first
+//! difference, and then ends with status 1. Options: `--count N`, `--seed S`, `--from N`, the number of the first
+//! input, and `--threads N`, which changes nothing but the time. With the usual count or more, it also ends with status
+//! 1 if something came up too seldom, which `tally.rs` and `shown.rs` say; with fewer inputs nothing is demanded of
+//! them.
 
 mod answers;
+mod files;
 mod input;
+mod lines;
 mod list;
 mod order;
 mod refused;
 mod run;
+mod shown;
+mod spoiled;
 mod tally;
 
 use answers::{first, second, Answers};
@@ -67,6 +72,7 @@ fn difference(x: &Answers, y: &Answers) -> Option<String> {
         .or_else(|| differs("what if: number, place; bits; sizes", &x.what_if, &y.what_if))
         .or_else(|| differs("what if, and each choice alone", &x.one_by_one, &y.one_by_one))
         .or_else(|| differs("best choice: number, place; verdicts; sizes", &x.best_choice, &y.best_choice))
+        .or_else(|| differs("frames: number, place; table", &x.frames, &y.frames))
 }
 
 fn hex(bytes: &[u8]) -> String {
@@ -84,6 +90,9 @@ fn report(seed: u64, number: u64) {
     println!("  lengths: words {words}, call order {order}, verdicts {verdicts}, sizes {sizes}");
     let (list, room) = (&input.list, input.list.sizes.len() - BEHIND);
     println!("  list, told {} choices and {room} sizes: {}", list.number, hex(&list.choices));
+    let [names, report] = [&input.files.names, &input.files.report].map(|file| &file[..file.len() - BEHIND]);
+    println!("  names: {}", names.escape_ascii());
+    println!("  report: {}", report.escape_ascii());
 }
 
 fn main() {
@@ -140,7 +149,11 @@ mod tests {
             },
             15 => x.best_choice.1 ^= 1,
             16 => x.best_choice.2[0] ^= 1,
-            _ => x.best_choice.3[0] ^= 1,
+            17 => x.best_choice.3[0] ^= 1,
+            18 => x.frames.0 += 1,
+            19 => x.frames.1 ^= 1,
+            20 => x.frames.2[0] ^= 1,
+            _ => *x.frames.2.last_mut().expect("a byte") ^= 1 << 7,
         }
         x
     }
@@ -150,7 +163,7 @@ mod tests {
         for number in 0..300 {
             let found = first(&input(1, number));
             assert_eq!(difference(&found, &found), None);
-            for which in 0..18 {
+            for which in 0..22 {
                 assert!(difference(&found, &wrong(&found, which)).is_some());
             }
         }
@@ -162,6 +175,7 @@ mod tests {
             let (x, y) = (input(7, number), input(7, number));
             assert!(x.table == y.table && x.choice == y.choice && x.sizes == y.sizes);
             assert!(x.list.choices == y.list.choices && x.list.sizes == y.list.sizes && x.order == y.order);
+            assert!(x.files.names == y.files.names && x.files.report == y.files.report);
             assert!(x.table != input(8, number).table);
         }
     }

@@ -4,15 +4,19 @@ use crate::answers::Answers;
 use crate::input::{Input, BEHIND, KINDS};
 use crate::list::{List, MOST};
 use crate::order::{has_ring_apart, longest_way_back, most_in_turn, with_spawns};
+use crate::shown::{Shown, SHOWN};
 use second::call_order::{call_order, reaching};
 use second::choice::{depths, order};
 use second::sizes::numbers_needed;
 use second::table::{check, Program, Sort};
 use std::cmp::Ordering;
 
-const CALLS: [&str; 6] = ["check", "synchronising", "call order", "one choice", "what if", "best choice"];
+const CALLS: [&str; 7] = ["check", "synchronising", "call order", "one choice", "what if", "best choice", "frames"];
 
-/// What is counted beside kinds and refusals.
+/// The numbers that a call returns are below this one.
+const NUMBERS: usize = 15;
+
+/// What is counted beside kinds, refusals and what the files show.
 #[derive(Clone, Copy, PartialEq, Eq, Debug)]
 enum Seen {
     Safe,
@@ -115,23 +119,26 @@ const LEAST_REFUSALS: u64 = 1_500;
 pub struct Tally {
     kinds: [u64; KINDS.len()],
     /// How often each number was returned by each of the calls.
-    numbers: [[u64; 13]; CALLS.len()],
+    numbers: [[u64; NUMBERS]; CALLS.len()],
     seen: [u64; SEEN.len()],
+    shown: [u64; SHOWN.len()],
 }
 
 impl Default for Tally {
     fn default() -> Tally {
-        Tally { kinds: [0; KINDS.len()], numbers: [[0; 13]; CALLS.len()], seen: [0; SEEN.len()] }
+        let numbers = [[0; NUMBERS]; CALLS.len()];
+        Tally { kinds: [0; KINDS.len()], numbers, seen: [0; SEEN.len()], shown: [0; SHOWN.len()] }
     }
 }
 
 /// The refusals of a call.
 fn refusals(call: usize) -> impl Iterator<Item = usize> {
-    (1..=12).filter(move |&number| match number {
+    (1..NUMBERS).filter(move |&number| match number {
         9 => call == 3 || call == 4,
         10 => call == 5,
-        11 => call >= 3,
+        11 => (3..=5).contains(&call),
         12 => call == 4,
+        13 | 14 => call == 6,
         _ => true,
     })
 }
@@ -152,7 +159,7 @@ impl Tally {
         self.kinds[input.kind as usize] += 1;
         let (list, best) = (answers.what_if.0, answers.best_choice.0);
         let (set, order) = (answers.synchronising.0, answers.call_order.0);
-        let numbers = [answers.check.0, set, order, answers.one_choice.0, list, best];
+        let numbers = [answers.check.0, set, order, answers.one_choice.0, list, best, answers.frames.0];
         for (call, number) in numbers.into_iter().enumerate() {
             self.numbers[call][number as usize] += 1;
         }
@@ -185,6 +192,7 @@ impl Tally {
         self.see(Seen::WrongBytes, (whole && wrong_bytes(program, &input.choice).len() > 1) as usize);
         self.add_list(program, &input.list, answers);
         self.add_order(program, input.order.len() - BEHIND);
+        self.add_files(&Shown::new(program.functions.len(), &input.files, answers.frames.0, answers.frames.1));
         if answers.best_choice.0 == 0 {
             self.add_best(&spawns, &answers.best_choice.2);
         }
@@ -242,6 +250,12 @@ impl Tally {
         self.see(seen, 1);
     }
 
+    fn add_files(&mut self, files: &Shown) {
+        for (count, (_, _, is_shown)) in self.shown.iter_mut().zip(SHOWN) {
+            *count += is_shown(files) as u64;
+        }
+    }
+
     fn add_best(&mut self, spawns: &[usize], choice: &[u8]) {
         let with = |byte: u8| spawns.iter().filter(|&&s| choice[s] == byte).count();
         self.see(Seen::Unmerged, with(1));
@@ -255,6 +269,7 @@ impl Tally {
     pub fn join(&mut self, other: &Tally) {
         let mine = self.kinds.iter_mut().chain(self.numbers.as_flattened_mut()).chain(&mut self.seen);
         let others = other.kinds.iter().chain(other.numbers.as_flattened()).chain(&other.seen);
+        let (mine, others) = (mine.chain(&mut self.shown), others.chain(&other.shown));
         mine.zip(others).for_each(|(x, y)| *x += y);
     }
 
@@ -262,9 +277,11 @@ impl Tally {
         let kinds: Vec<String> = KINDS.iter().zip(self.kinds).map(|((k, _), count)| format!("{count} {k:?}")).collect();
         println!("  {}", kinds.join(", "));
         for (call, numbers) in CALLS.iter().zip(self.numbers) {
-            println!("  {call}: answers by number, 0 to 12: {numbers:?}");
+            println!("  {call}: answers by number, 0 to 14: {numbers:?}");
         }
-        for ((_, what, _), count) in SEEN.iter().zip(self.seen) {
+        let seen = SEEN.iter().map(|(_, what, _)| what).zip(self.seen);
+        let shown = SHOWN.iter().map(|(what, ..)| what).zip(self.shown);
+        for (what, count) in seen.chain(shown) {
             println!("  {what}: {count}");
         }
     }
@@ -283,6 +300,9 @@ impl Tally {
         for (&(_, what, least), count) in SEEN.iter().zip(self.seen) {
             demands.push((what.to_string(), count, least));
         }
+        for (&(what, least, _), count) in SHOWN.iter().zip(self.shown) {
+            demands.push((what.to_string(), count, least));
+        }
         demands.retain(|&(_, count, least)| count < least);
         demands.iter().map(|(what, count, least)| format!("{what}: {count} of at least {least}")).collect()
     }
@@ -294,8 +314,9 @@ mod tests {
 
     /// A tally in which everything came up just as often as it has to.
     fn enough() -> Tally {
-        let numbers = [[LEAST_REFUSALS; 13]; CALLS.len()];
-        Tally { kinds: [LEAST_OF_A_KIND; KINDS.len()], numbers, seen: SEEN.map(|(_, _, least)| least) }
+        let numbers = [[LEAST_REFUSALS; NUMBERS]; CALLS.len()];
+        let (seen, shown) = (SEEN.map(|(_, _, least)| least), SHOWN.map(|(_, least, _)| least));
+        Tally { kinds: [LEAST_OF_A_KIND; KINDS.len()], numbers, seen, shown }
     }
 
     #[test]
@@ -312,7 +333,7 @@ mod tests {
             assert_eq!(tally.seldom().len(), 1);
         }
         for call in 0..CALLS.len() {
-            for number in 0..13 {
+            for number in 0..NUMBERS {
                 let mut tally = enough();
                 tally.numbers[call][number] -= 1;
                 assert_eq!(tally.seldom().len(), refusals(call).filter(|&n| n == number).count());
@@ -323,10 +344,15 @@ mod tests {
             tally.seen[what] -= 1;
             assert_eq!(tally.seldom().len(), 1);
         }
+        for what in 0..SHOWN.len() {
+            let mut tally = enough();
+            tally.shown[what] -= 1;
+            assert_eq!(tally.seldom().len(), 1);
+        }
     }
 
-    /// "9 arises where a choice is handed in, 10 in the best-choice call, 11 where sizes are written", and 12 where a
-    /// list of choices is handed in.
+    /// "9 arises where a choice is handed in, 10 in the best-choice call, 11 where sizes are written", 12 where a list
+    /// of choices is handed in, and 13 and 14 where a report is.
     #[test]
     fn the_refusals_of_each_call() {
         let all: Vec<Vec<usize>> = (0..CALLS.len()).map(|call| refusals(call).collect()).collect();
@@ -336,6 +362,7 @@ mod tests {
         assert_eq!(all[3], [1, 2, 3, 4, 5, 6, 7, 8, 9, 11]);
         assert_eq!(all[4], [1, 2, 3, 4, 5, 6, 7, 8, 9, 11, 12]);
         assert_eq!(all[5], [1, 2, 3, 4, 5, 6, 7, 8, 10, 11]);
+        assert_eq!(all[6], [1, 2, 3, 4, 5, 6, 7, 8, 13, 14]);
     }
 
     #[test]
@@ -343,7 +370,8 @@ mod tests {
         let mut tally = enough();
         tally.join(&enough());
         assert_eq!(tally.kinds, [2 * LEAST_OF_A_KIND; KINDS.len()]);
-        assert_eq!(tally.numbers, [[2 * LEAST_REFUSALS; 13]; CALLS.len()]);
+        assert_eq!(tally.numbers, [[2 * LEAST_REFUSALS; NUMBERS]; CALLS.len()]);
         assert_eq!(tally.seen, SEEN.map(|(_, _, least)| 2 * least));
+        assert_eq!(tally.shown, SHOWN.map(|(_, least, _)| 2 * least));
     }
 }

@@ -3,6 +3,7 @@
 
 pub mod call_order;
 pub mod choice;
+pub mod frames;
 pub mod listing;
 pub mod random;
 pub mod safety;
