@@ -4,74 +4,9 @@
 //! Prints how many runs each program was held to, or the first that went wrong, and then ends with status 1.
 //! Arguments: the programs.
 
-mod input;
-
-use input::Input;
-use std::process::{Command, Output};
-
-/// Case C of document 01.
-#[rustfmt::skip]
-const TABLE: [u8; 72] = [
-    1, 1, 0, 0, 2, 0, 16, 0,
-    1, 0, 3, 0, 3, 0, 10, 0,
-    2, 0, 0, 0, 0, 0, 0, 0,
-    2, 2, 0, 0, 1, 0, 0, 0,
-    2, 0, 0, 0, 0, 0, 0, 0,
-    2, 0, 1, 0, 0, 0, 0, 0,
-    3, 0, 0, 0, 1, 0, 0, 0,
-    3, 0, 1, 0, 1, 0, 0, 0,
-    3, 0, 1, 0, 2, 0, 0, 0,
-];
-
-/// So many of its bytes come before the edges. They are accepted too, and their spawn comes out unguarded.
-const BEFORE_EDGES: usize = 48;
-
-/// What fails, and how the error names it: whether it is reading or writing, and why it fails.
-struct Failure {
-    what: &'static str,
-    how: How,
-    side: &'static str,
-    name: &'static str,
-}
-
-enum How {
-    /// As the shell redirects it. The input is the table where it is left as it is.
-    Redirected(&'static str),
-    /// The bytes of the table from this one on come late, and the input does not wait for them.
-    Late(usize),
-}
-
-const READING: &str = "Reading";
-const WRITING: &str = "Writing";
-
-const NO_FILE: &str = "Bad file descriptor";
-const NOT_YET: &str = "Resource temporarily unavailable";
-
-const FAILURES: [Failure; 9] = [
-    Failure { what: "a directory as input", how: How::Redirected("<."), side: READING, name: "Is a directory" },
-    Failure { what: "a closed input", how: How::Redirected("<&-"), side: READING, name: NO_FILE },
-    Failure { what: "a write-only input", how: How::Redirected("0>/dev/null"), side: READING, name: NO_FILE },
-    Failure { what: "an input that is late from the start", how: How::Late(0), side: READING, name: NOT_YET },
-    Failure { what: "an input that is late within a record", how: How::Late(13), side: READING, name: NOT_YET },
-    Failure { what: "an input whose edges are late", how: How::Late(BEFORE_EDGES), side: READING, name: NOT_YET },
-    Failure { what: "a closed output", how: How::Redirected(">&-"), side: WRITING, name: NO_FILE },
-    Failure { what: "a read-only output", how: How::Redirected("1</dev/null"), side: WRITING, name: NO_FILE },
-    Failure {
-        what: "a full output",
-        how: How::Redirected(">/dev/full"),
-        side: WRITING,
-        name: "No space left on device",
-    },
-];
-
-/// A program with its arguments.
-type Words<'a> = &'a [&'a str];
-
-fn run(program: Words, redirection: &str, input: Input) -> Result<Output, String> {
-    let mut command = Command::new("sh");
-    command.args(["-c", &format!("exec \"$@\" {redirection}"), "sh"]).args(program);
-    input::output(command, input).map_err(|error| error.to_string())
-}
+use programs::failures::{end, run, Failure, Words, BEFORE_EDGES, FAILURES, TABLE};
+use programs::input::Input;
+use std::process::Output;
 
 /// An error where the end of a program that had this failure is not as it has to be.
 fn ends_by(output: &Output, side: &str, name: &str) -> Result<(), String> {
@@ -89,11 +24,7 @@ fn ends_by(output: &Output, side: &str, name: &str) -> Result<(), String> {
 }
 
 fn held(program: Words, failure: &Failure) -> Result<(), String> {
-    let output = match failure.how {
-        How::Redirected(redirection) => run(program, redirection, Input::Whole(&TABLE)),
-        How::Late(early) => run(program, "", Input::Late(&TABLE[..early], &TABLE[early..])),
-    };
-    output
+    end(program, failure)
         .and_then(|output| ends_by(&output, failure.side, failure.name))
         .map_err(|text| format!("{}: {text}", failure.what))
 }
@@ -143,6 +74,7 @@ fn main() {
 #[cfg(test)]
 mod tests {
     use super::*;
+    use programs::failures::{How, NO_FILE, READING};
 
     /// Programs that take a failure wrongly, each in a way of its own: by reading to it and counting what there is, by
     /// saying nothing, and by a line with no status.
