@@ -1,4 +1,6 @@
-//! What both measurements share: the tables that are measured, and how calls are timed.
+//! What the measurements share: the tables and the report that are measured, plain code to measure against, and how calls are timed.
 
+pub mod plain;
+pub mod report;
 pub mod tables;
 pub mod time;

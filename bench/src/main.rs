@@ -1,9 +1,10 @@
 //! Measures the best-choice call and the call for one choice against the second implementation, in one run. Of a ratio above 1 the
 //! proved library is the faster one. The choice of the second call is the best one. Then measures the call for a list of choices
-//! against a call for each of them: of a ratio above 1 the list is the faster one.
+//! against a call for each of them: of a ratio above 1 the list is the faster one. And the call for the frames of a report
+//! against plain code with a hash map: of a ratio above 1 the proved library is the faster one.
 
-use bench::{tables, time::time};
-use nagbiro::{nagbiro_best_choice, nagbiro_one_choice, nagbiro_what_if};
+use bench::{plain, report, tables, time::time};
+use nagbiro::{nagbiro_best_choice, nagbiro_frames, nagbiro_one_choice, nagbiro_what_if};
 use second::random::Random;
 use second::table::Sort;
 
@@ -119,6 +120,31 @@ fn measure_list(table: &tables::Table) {
     );
 }
 
+fn frames(table: &mut [u8], files: &report::Files) {
+    let (t, n, r) = (table.as_mut_ptr(), files.names.as_ptr(), files.report.as_ptr());
+    let mut place = 0;
+    let number = unsafe { nagbiro_frames(t, table.len(), n, files.names.len(), r, files.report.len(), &mut place) };
+    assert_eq!(number, 0, "refused {number} at {place}");
+}
+
+// In megabytes of the report for each second.
+fn measure_report(table: &tables::Table) {
+    let files = report::files();
+    let (mut ours, mut theirs) = (table.bytes.clone(), table.bytes.clone());
+    let (_, our_time) = time(|| frames(&mut ours, &files));
+    let (end, their_time) = time(|| plain::frames(&mut theirs, &files.names, &files.report));
+    assert!(end.is_ok() && ours == theirs && ours != table.bytes, "{}: they differ", table.name);
+    let speed = |time: f64| files.report.len() as f64 / 1e3 / time;
+    println!(
+        "| {} lines, {} of them listed | {:.1} | {:.1} | {:.2} |",
+        report::LINES,
+        report::LISTED,
+        speed(our_time),
+        speed(their_time),
+        their_time / our_time
+    );
+}
+
 fn main() {
     println!("| Table | Best choice, ms | Ratio | Trials | Passes | One choice, ms | Ratio | Passes | Rounds of the second |");
     println!("|---|---|---|---|---|---|---|---|---|");
@@ -144,4 +170,8 @@ fn main() {
     println!("| List of choices | One call, ms | A call for each, ms | Ratio | Passes | Passes of a call for each |");
     println!("|---|---|---|---|---|---|");
     measure_list(&tables::full_size("full size, recursion", true));
+    println!();
+    println!("| Report | Frames, MB/s | Plain code with a hash map, MB/s | Ratio |");
+    println!("|---|---|---|---|");
+    measure_report(&tables::full_size("full size, recursion", true));
 }

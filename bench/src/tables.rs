@@ -43,7 +43,7 @@ impl Records {
 }
 
 // Case A of document 01.
-fn case_a() -> Table {
+pub fn case_a() -> Table {
     let mut records = Records::default();
     records.function(40, &[(PLAIN, 0), (SPAWN, 1), (SYNC, 0), (SPAWN, 2), (PLAIN, 0)]);
     records.function(24, &[(PLAIN, 0)]);
