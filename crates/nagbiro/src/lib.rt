@@ -162,7 +162,7 @@ pub extern "C" fn nagbiro_frames(
     place: &mut usize,
 ) -> u32
     ensures told { Told (frames_result (frames_call t.old names.now report.now)) result place.old place.new }
-    ensures leaves { LeavesFrames (frames_call t.old names.now report.now) t.old (frames_result (frames_call t.old names.now report.now)) t.new }
+    ensures leaves { LeavesFrames (frames_call t.old names.now report.now) (frames_result (frames_call t.old names.now report.now)) t.new }
 {
     if let Err(why) = frames(t, names, report) {
         return tell(why, place);

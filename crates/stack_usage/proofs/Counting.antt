@@ -13,8 +13,7 @@ use Rattle.stack_usage.specs.declared.mention.Mention.{Mention}
 use Rattle.stack_usage.specs.declared.mention.Mention.TheVariants.{Never, Once, More}
 use Rattle.stack_usage.specs.declared.names.Names.{Names}
 use Rattle.stack_usage.specs.Call.{not_once, counted}
-use Rattle.stack_usage.specs.Names.{NamesFor}
-use Rattle.stack_usage.specs.Report.{NamesOf}
+use Rattle.stack_usage.specs.Names.{NamesFor, NamesOf}
 use Rattle.stack_usage.specs.Mention.{Says, SaysOfEach}
 use Rattle.stack_usage.specs.Counted.{EachOnce, FirstOdd}
 use Rattle.stack_usage.proofs.Mentions.{once_counted, never_once, more_once}
@@ -22,7 +21,7 @@ use Rattle.stack_usage.proofs.Mentions.{once_counted, never_once, more_once}
 -- of the functions that the list names
 pub said_named : (names report : List ℕ) {functions : ℕ} {list : Names} (mentions : List Mention) → NamesFor names functions list → ((file : List ℕ) → NamesOf file list → SaysOfEach file report list.functions (lines report) mentions) → SaysOfEach names report functions (lines report) mentions
 said_named names report mentions named said f h =
-    said names (λ g d l. named.name_is g d (omega (arith, l, named.functions_are))) f (omega (arith, h, named.functions_are))
+    said names named.names_are f (omega (arith, h, named.functions_are))
 
 module _ (names report : List ℕ) (functions : ℕ) (mentions : List Mention) (said : SaysOfEach names report functions (lines report) mentions) where
   -- a function with one line, and the count of that

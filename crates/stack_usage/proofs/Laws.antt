@@ -18,7 +18,7 @@ use Rattle.table.proofs.Booleans.{some_not_none, not_both}
 use Rattle.table.proofs.Refusals.{refusal_none, refusal_over_none, each_passes}
 use Rattle.table.proofs.Results.{none_refused, table_accepted}
 use Rattle.usage_line.specs.Bytes.{is_name}
-use Rattle.usage_line.specs.Line.{count_in, in_range}
+use Rattle.usage_line.specs.Line.{count_in, is_usage}
 use Rattle.usage_line.specs.Lines.{pieces, lines, line, piece_at, is_line}
 use Rattle.stack_usage.specs.Call.{FramesCall, wrong_name, wrong_usage, about, not_once, usage_checks, frames_checks, frames_result, counted}
 use Rattle.stack_usage.proofs.Passing.{some_counted, only_one}
@@ -36,7 +36,7 @@ pub record Valid (x : FramesCall) : Type 0 where
   pub accepted_is : Accepted x.table
   pub as_many : lines x.names ≡ functions x.table
   pub names_are : (k : ℕ) → k < functions x.table → is_line is_name (piece_at x.names k) ≡ true
-  pub usages_are : (j : ℕ) → j < lines x.report → is_line in_range (piece_at x.report j) ≡ true
+  pub usages_are : (j : ℕ) → j < lines x.report → is_line is_usage (piece_at x.report j) ≡ true
   pub only_line : (f : ℕ) → f < functions x.table → (j : ℕ) × OnlyLine x.names x.report f j
 
 -- the row of the report
@@ -62,7 +62,7 @@ module _ (x : FramesCall) (e : refusal usage_checks x ≡ None) where
   unfolding wrong_name
   no_more = ltb-false _ _ (rw (le-ltb (functions x.table) (functions x.table) (omega arith)) at (none_wrong (functions x.table) (omega arith)))
 
-  used : (j : ℕ) → j < lines x.report → is_line in_range (piece_at x.report j) ≡ true
+  used : (j : ℕ) → j < lines x.report → is_line is_usage (piece_at x.report j) ≡ true
   unfolding usage_checks wrong_usage
   used j h =
       not-false _ (earliest_passed (wrong_usage x.report) (lines x.report) (unmapped (functions x.table) (earliest (wrong_usage x.report) (lines x.report)) (refusal_none x usage_checks e report_row (search in_List depth 40))) j h)

@@ -1,7 +1,7 @@
 -- A report, read line by line.
 use Prim.Native.Nat.{ℕ, ◌+◌, ◌<◌}
 use mathlib.Core.Path.{◌≡◌, refl, sym, ap, subst, ◌∙◌}
-use mathlib.Core.Bool.{Bool, true, false, ◌&&◌}
+use mathlib.Core.Bool.{true, false, ◌&&◌}
 use mathlib.Core.List.{List, []}
 use mathlib.Core.Logic.{⊎_elim}
 use native.Mathlib.Omega.{arith}
@@ -9,9 +9,8 @@ use lib.ListN.{drop, get_or}
 use Rattle.std.specs.Prelude.{None, Some, bytes_eq}
 use Rattle.table.specs.Below.{earliest}
 use Rattle.table.proofs.Below.{earliest_none, earliest_some, passed_more}
-use Rattle.table.proofs.Booleans.{either_way, and_true_left}
-use Rattle.usage_line.specs.Bytes.{line_feed, ends_in}
-use Rattle.usage_line.specs.Line.{count_in, in_range}
+use Rattle.table.proofs.Booleans.{either_way}
+use Rattle.usage_line.specs.Line.{count_in, is_usage}
 use Rattle.usage_line.specs.Lines.{pieces, piece_at, body, line, lines, is_line}
 use Rattle.usage_line.specs.Cut.{IsCut}
 use Rattle.usage_line.specs.declared.answer.Usage.{Usage}
@@ -22,7 +21,8 @@ use Rattle.stack_usage.specs.declared.mention.Mention.TheVariants.{Never}
 use Rattle.stack_usage.specs.declared.names.Names.{Names}
 use Rattle.stack_usage.specs.Call.{about, wrong_usage}
 use Rattle.stack_usage.specs.Mention.{Says, SaysOfEach}
-use Rattle.stack_usage.specs.Report.{NamesOf, Noted, Reads, ReportRead}
+use Rattle.stack_usage.specs.Names.{NamesOf}
+use Rattle.stack_usage.specs.Report.{Noted, Reads, ReportRead}
 use Rattle.stack_usage.proofs.Mentions.{says_none, says_same, says_more}
 
 pub report_start : (report : List ℕ) (names : Names) (mentions : List Mention) → ((f : ℕ) → f < names.functions → get_or mentions f Never ≡ Never) → ReportRead report names 0 mentions report
@@ -39,17 +39,13 @@ module _ {report : List ℕ} {names : Names} {j : ℕ} {old : List Mention} {res
     line_is : (j < lines report) × (piece_at report j ≡ is.0) × (drop (j + 1) (pieces report) ≡ pieces cut.behind.now)
     line_is = pieces_drop report j is.0 (pieces cut.behind.now) (read.left ∙ is.1)
 
-    form_is : (cut.ended && in_range cut.line.now) ≡ is_line in_range (piece_at report j)
-    form_is = rw line_is.1 (go cut.ended is.2 is.3)
-      where
-        go : (ended : Bool) → ended ≡ ends_in line_feed is.0 → (ended ≡ true → cut.line.now ≡ body is.0) → (ended && in_range cut.line.now) ≡ (ends_in line_feed is.0 && in_range (body is.0))
-        go true e l = rw (← e, l refl) refl
-        go false e l = rw (← e) refl
+    form_is : (cut.ended && is_usage cut.line.now) ≡ is_line is_usage (piece_at report j)
+    form_is = rw (line_is.1, is.2, is.3) refl
 
-    text_is : (cut.ended && in_range cut.line.now) ≡ true → line report j ≡ cut.line.now
-    text_is right = ap body line_is.1 ∙ sym (is.3 (and_true_left cut.ended (in_range cut.line.now) right))
+    text_is : line report j ≡ cut.line.now
+    text_is = ap body line_is.1 ∙ sym is.3
 
-    pub report_stops : (cut.ended && in_range cut.line.now) ≡ false → earliest (wrong_usage report) (lines report) ≡ Some j
+    pub report_stops : (cut.ended && is_usage cut.line.now) ≡ false → earliest (wrong_usage report) (lines report) ≡ Some j
     unfolding wrong_usage
     report_stops wrong = earliest_some (wrong_usage report) (lines report) j line_is.0 read.each_right (rw (sym form_is ∙ wrong) refl)
 
@@ -58,10 +54,10 @@ module _ {report : List ℕ} {names : Names} {j : ℕ} {old : List Mention} {res
       module _ {new : List Mention} (noted : Noted names usage names.functions old new) (file : List ℕ) (of : NamesOf file names) (f : ℕ) (h : f < names.functions) where
         same_test : bytes_eq (get_or names.of f usage.name).now usage.name.now ≡ about file report f j
         unfolding about
-        same_test = rw (of f usage.name h, reads.1, text_is reads.0) refl
+        same_test = rw (of f usage.name h, reads.1, text_is) refl
 
         count_is : usage.count ≡ count_in (line report j)
-        count_is = reads.2 ∙ ap count_in (sym (text_is reads.0))
+        count_is = reads.2 ∙ ap count_in (sym text_is)
 
         said_more : Says file report f (j + 1) (get_or new f Never)
         said_more =

@@ -8,7 +8,7 @@ use Rattle.table.specs.Checks.{checks}
 use Rattle.table.specs.Result.{Result, done, refused, result_for, result_of}
 use Rattle.table.specs.declared.refusal.Refused.{Refused}
 use Rattle.usage_line.specs.Bytes.{is_name}
-use Rattle.usage_line.specs.Line.{name_in, count_in, in_range}
+use Rattle.usage_line.specs.Line.{name_in, count_in, is_usage}
 use Rattle.usage_line.specs.Lines.{lines, piece_at, line, is_line}
 use Rattle.frame_writer.specs.Frames.{WithFrames}
 
@@ -21,14 +21,14 @@ pub record FramesCall : Type 0 where
 abbrev pub frames_call : List ℕ → List ℕ → List ℕ → FramesCall
 frames_call t names report = record { table = t; names = names; report = report }
 
--- 13, in the name list, "one line per function in number order": a line "that isn't of its form", which a missing one is not, "or a name list with a
--- line too many", which is the one behind those of all functions
+-- 13, in the name list, "one line per function in number order": a line "that isn't of its form [..] or a name list with a line too many or too few". A
+-- line that is missing has no bytes, and so is no name; a line too many is the one of this number, behind those of all functions.
 unfoldable pub wrong_name : (names : List ℕ) (functions : ℕ) → ℕ → Bool
 wrong_name names functions k = cond (ltb k functions) (not (is_line is_name (piece_at names k))) (ltb k (lines names))
 
 -- 13, in the report: a line "that isn't of its form, a count above 65,535"
 unfoldable pub wrong_usage : (report : List ℕ) → ℕ → Bool
-wrong_usage report j = not (is_line in_range (piece_at report j))
+wrong_usage report j = not (is_line is_usage (piece_at report j))
 
 -- "Names match byte for byte": line j of the report is about function f
 unfoldable pub about : (names report : List ℕ) → ℕ → ℕ → Bool
@@ -60,9 +60,9 @@ unfoldable pub counted : (names report : List ℕ) → ℕ → ℕ
 counted names report f = count_in (line report (unwrap_or (earliest (about names report f) (lines report)) 0))
 
 -- What the call leaves in the table's buffer: the counts in its frames, and nothing else is new; and "A refusal writes nothing."
-abbrev pub LeavesFor : FramesCall → List ℕ → Result → List ℕ → Type 0
-LeavesFor x old done new = WithFrames old (counted x.names x.report) new
-LeavesFor x old (refused number place) new = new ≡ old
+abbrev pub LeavesFor : FramesCall → Result → List ℕ → Type 0
+LeavesFor x done new = WithFrames x.table (counted x.names x.report) new
+LeavesFor x (refused number place) new = new ≡ x.table
 
-abbrev pub Leaves : {X : Type 0} → FramesCall → List ℕ → CodeResult X Refused → List ℕ → Type 0
-Leaves x old answer new = LeavesFor x old (result_of answer) new
+abbrev pub Leaves : {X : Type 0} → FramesCall → CodeResult X Refused → List ℕ → Type 0
+Leaves x answer new = LeavesFor x (result_of answer) new

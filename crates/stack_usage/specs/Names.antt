@@ -21,8 +21,12 @@ pub record NamesRead (file : List ℕ) (done : ℕ) (of : List (Bor (List ℕ)))
   pub each_name : (f : ℕ) → f < done → is_line is_name (piece_at file f) ≡ true
   pub left : drop done (pieces file) ≡ pieces rest
 
+-- the names of a file's lines
+abbrev pub NamesOf : List ℕ → Names → Type 0
+NamesOf file names = (f : ℕ) (d : Bor (List ℕ)) → f < names.functions → (get_or names.of f d).now ≡ line file f
+
 -- a name for each function, and no line besides
 pub record NamesFor (file : List ℕ) (functions : ℕ) (names : Names) : Type 0 where
   pub functions_are : names.functions ≡ functions
-  pub name_is : (f : ℕ) (d : Bor (List ℕ)) → f < functions → (get_or names.of f d).now ≡ line file f
+  pub names_are : NamesOf file names
   pub none_wrong : earliest (wrong_name file functions) (functions + 1) ≡ None

@@ -1,23 +1,20 @@
 -- A report, read line by line. Helps proofs only.
 use Rattle.std.specs.Prelude.{ℕ, ◌<◌, ◌≤◌, ◌≡◌, true, false, ◌&&◌, cond, List, length, drop, get_or, bytes_eq}
 use Rattle.std.specs.Borrow.{Bor}
-use Rattle.usage_line.specs.Line.{name_in, count_in, in_range}
-use Rattle.usage_line.specs.Lines.{pieces, lines, line}
+use Rattle.usage_line.specs.Line.{name_in, count_in, is_usage}
+use Rattle.usage_line.specs.Lines.{pieces, lines}
 use Rattle.usage_line.specs.declared.answer.Usage.{Usage}
 use Rattle.usage_line.specs.declared.lines.Cut.{Cut}
 use Rattle.stack_usage.specs.Call.{wrong_usage}
 use Rattle.stack_usage.specs.Mention.{more, SaysOfEach}
+use Rattle.stack_usage.specs.Names.{NamesOf}
 use Rattle.stack_usage.specs.declared.mention.Mention.{Mention}
 use Rattle.stack_usage.specs.declared.mention.Mention.TheVariants.{Never}
 use Rattle.stack_usage.specs.declared.names.Names.{Names}
 
--- the names of a file's lines
-abbrev pub NamesOf : List ℕ → Names → Type 0
-NamesOf file names = (f : ℕ) (d : Bor (List ℕ)) → f < names.functions → (get_or names.of f d).now ≡ line file f
-
 -- the line is of its form and in range, and this is what it says
 abbrev pub Reads : Cut → Usage → Type 0
-Reads cut usage = ((cut.ended && in_range cut.line.now) ≡ true) × (usage.name.now ≡ name_in cut.line.now) × (usage.count ≡ count_in cut.line.now)
+Reads cut usage = ((cut.ended && is_usage cut.line.now) ≡ true) × (usage.name.now ≡ name_in cut.line.now) × (usage.count ≡ count_in cut.line.now)
 
 -- one more line about those of the first n functions that have its name, and about no other
 pub record Noted (names : Names) (usage : Usage) (n : ℕ) (old new : List Mention) : Type 0 where

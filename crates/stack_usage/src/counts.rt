@@ -38,16 +38,16 @@ pub(crate) struct Counted {
 }
 
 // Judges the call, and counts.
-pub(crate) fn count(t: &[u8], names: &[u8], report: &[u8]) -> Result<Counted, Refused>
+pub(crate) fn judge(t: &[u8], names: &[u8], report: &[u8]) -> Result<Counted, Refused>
     ensures answer { result_of result ≡ frames_result (frames_call t.now names.now report.now) }
     ensures counted { IfOk result (CountedFor (frames_call t.now names.now report.now)) }
 {
-    let of = check(t)?;
-    let list = read_names(names, of.functions)?;
+    let table = check(t)?;
+    let list = read_names(names, table.functions)?;
     let mentions = read_report(report, &list)?;
-    let counts = each_once(&mentions, of.functions)?;
+    let counts = each_once(&mentions, table.functions)?;
     Ok(Counted {
         counts,
-        functions: of.functions,
+        functions: table.functions,
     })
 }

@@ -1,12 +1,13 @@
 // The report, line by line.
-ghost use Rattle.std.specs.Prelude.{◌≡◌, ◌≤◌, ◌+◌, ◌&&◌, false, ℕ, List, Some, None, IfOk, IfErr, MatchOption, length};
+ghost use Rattle.std.specs.Prelude.{◌≡◌, ◌≤◌, ◌+◌, ◌&&◌, false, ℕ, List, Some, None, IfOk, IfErr, MatchOption};
 ghost use Rattle.table.specs.Below.{earliest};
 ghost use Rattle.table.specs.Answer.{number_of};
-ghost use Rattle.usage_line.specs.Line.{in_range};
+ghost use Rattle.usage_line.specs.Line.{is_usage};
 ghost use Rattle.usage_line.specs.Lines.{lines};
 ghost use Rattle.stack_usage.specs.Call.{wrong_usage};
 ghost use Rattle.stack_usage.specs.Mention.{SaysOfEach};
-ghost use Rattle.stack_usage.specs.Report.{NamesOf, Noted, Reads};
+ghost use Rattle.stack_usage.specs.Names.{NamesOf};
+ghost use Rattle.stack_usage.specs.Report.{Noted, Reads};
 
 use crate::mention::Mention;
 use crate::names::Names;
@@ -15,7 +16,7 @@ use usage_line::{Cut, Usage, next_line, usage};
 
 // What a line says, where it ends in its line feed, is of its form and its count is in range.
 fn usage_of<'a>(cut: &Cut<'a>) -> Option<Usage<'a>>
-    ensures { MatchOption result ((cut.now.ended && in_range cut.now.line.now) ≡ false) (Reads cut.now) }
+    ensures { MatchOption result ((cut.now.ended && is_usage cut.now.line.now) ≡ false) (Reads cut.now) }
 {
     if cut.ended { usage(cut.line) } else { None }
 }

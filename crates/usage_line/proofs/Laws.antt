@@ -5,7 +5,7 @@ use Rattle.std.proofs.lemmas.List.{length-drop, drop_more}
 use Rattle.usage_line.specs.Bytes.{line_feed, ends_in, is_place, is_name, is_count, value}
 use Rattle.usage_line.specs.Line.{name_start, count_part, of_form, name_in, count_in}
 use Rattle.usage_line.specs.Lines.{pieces, lines, piece_at}
-use Rattle.usage_line.proofs.Forms.{formed, name_is_name, name_has_bytes}
+use Rattle.usage_line.proofs.Forms.{formed, name_is_name}
 use Rattle.usage_line.proofs.Written.{found_again, made_of}
 use Rattle.usage_line.proofs.Pieces.{joined, fed, unfed}
 pub use Rattle.usage_line.proofs.Written.{line_of}
@@ -28,9 +28,6 @@ written_form line form = record { place_is = (formed line form).place; name_is =
 
 pub name_is : (line : List ℕ) → of_form line ≡ true → is_name (name_in line) ≡ true
 name_is = name_is_name
-
-pub name_some : (line : List ℕ) → of_form line ≡ true → 1 ≤ length (name_in line)
-name_some = name_has_bytes
 
 -- ---- a file
 

@@ -33,23 +33,28 @@ pieces_whole (b ∷ c ∷ bytes) l none =
 -- a piece is taken off
 pub cut_at : (file : List ℕ) (k : ℕ) → k < length file → ((j : ℕ) → j < k → eqb (get_or file j 0) line_feed ≡ false) → eqb (get_or file k 0) line_feed ≡ true → IsCut file (take k file) true (drop (suc k) file)
 cut_at file k l before here =
-    let long : length (take (suc k) file) ≡ suc k = length-take-le (suc k) file (omega arith) in
-    let last : length (take (suc k) file) - 1 ≡ k = omega (arith, long) in (
-      take (suc k) file,
+    let piece = take (suc k) file in
+    let long : length piece ≡ suc k = length-take-le (suc k) file (omega arith) in
+    let last : length piece - 1 ≡ k = omega (arith, long) in
+    let ended : ends_in line_feed piece ≡ true =
+    and_from _ _ (lt-ltb 0 _ (omega (arith, long))) (subst (λ (m : ℕ). eqb (get_or piece m 0) line_feed ≡ true) (sym last) (ap (λ (b : ℕ). eqb b line_feed) (get_or-take (suc k) file k 0 (omega arith)) ∙ here))
+    in (
+      piece,
       pieces_at k file l before here,
-      sym (and_from _ _ (lt-ltb 0 _ (omega (arith, long))) (subst (λ (m : ℕ). eqb (get_or (take (suc k) file) m 0) line_feed ≡ true) (sym last) (ap (λ (b : ℕ). eqb b line_feed) (get_or-take (suc k) file k 0 (omega arith)) ∙ here))),
-      λ e. sym (ap (λ (m : ℕ). take m (take (suc k) file)) last ∙ take-take k (suc k) file (omega arith)),
+      sym ended,
+      sym (ap (λ (b : Bool). cond b (take (length piece - 1) piece) piece) ended ∙ ap (λ (m : ℕ). take m piece) last ∙ take-take k (suc k) file (omega arith)),
       simp length-drop (omega arith),
     )
 
-pub cut_whole : (file line : List ℕ) → 0 < length file → ((j : ℕ) → j < length file → eqb (get_or file j 0) line_feed ≡ false) → IsCut file line false []
-cut_whole file line l none = (
-  file,
-  pieces_whole file l none ∙ ap (λ (p : List (List ℕ)). file ∷ p) (sym (pieces_none [] refl)),
-  sym (and_right _ _ (none (length file - 1) (omega arith))),
-  λ e. absurd cc,
-  l,
-)
+pub cut_whole : (file : List ℕ) → 0 < length file → ((j : ℕ) → j < length file → eqb (get_or file j 0) line_feed ≡ false) → IsCut file file false []
+cut_whole file l none =
+    let open_end : ends_in line_feed file ≡ false = and_right _ _ (none (length file - 1) (omega arith)) in (
+      file,
+      pieces_whole file l none ∙ ap (λ (p : List (List ℕ)). file ∷ p) (sym (pieces_none [] refl)),
+      sym open_end,
+      sym (ap (λ (b : Bool). cond b (take (length file - 1) file) file) open_end),
+      l,
+    )
 
 -- ---- what `pieces` means
 

@@ -1,5 +1,5 @@
 -- One line taken off a file. This helps proofs only.
-use Rattle.std.specs.Prelude.{ℕ, ◌<◌, ◌≡◌, Bool, true, List, ◌∷◌, length}
+use Rattle.std.specs.Prelude.{ℕ, ◌<◌, ◌≡◌, Bool, List, ◌∷◌, length}
 use Rattle.usage_line.specs.Bytes.{line_feed, ends_in}
 use Rattle.usage_line.specs.Lines.{pieces, body}
 
@@ -9,5 +9,5 @@ IsCut file line ended behind =
     (piece : List ℕ)
     × (pieces file ≡ piece ∷ pieces behind)
     × (ended ≡ ends_in line_feed piece)
-    × (ended ≡ true → line ≡ body piece)
+    × (line ≡ body piece)
     × (length behind < length file)

@@ -1,5 +1,4 @@
 -- Document 02, "Frames from the compiler's report": a line of the report, taken without its line feed.
--- "Each line holds a place that ends in a colon and the function's name, a tab, a byte count in decimal, a tab, and a qualifier."
 use Rattle.std.specs.Prelude.{ℕ, zero, suc, ◌+◌, ◌-◌, Bool, cond, ◌&&◌, eqb, leb, List, [], ◌∷◌, length, drop, get_or, codes, slice_range, bytes_eq, unwrap_or}
 use Rattle.table.specs.Below.{earliest}
 use Rattle.usage_line.specs.Bytes.{tab, colon, is_place, is_name, is_count, value}
@@ -21,7 +20,7 @@ name_end line = unwrap_or (earliest (stands tab line) (length line)) (length lin
 unfoldable pub name_start : List ℕ → ℕ
 name_start line = behind_last (stands colon line) (name_end line)
 
--- "a tab, and a qualifier", "The qualifier must be `static`": how a line ends, so where its count does
+-- "a tab, and a qualifier", "The qualifier must be `static`": what stands behind the count
 abbrev pub qualifier : List ℕ
 qualifier = tab ∷ codes "static"
 
@@ -31,7 +30,8 @@ count_end line = length line - length qualifier
 abbrev pub count_part : List ℕ → List ℕ
 count_part line = slice_range line (name_end line + 1) (count_end line)
 
--- whether a line is of this form
+-- "Each line holds a place that ends in a colon and the function's name, a tab, a byte count in decimal, a tab, and a qualifier": a line of this form. By
+-- the law `written_form` it is its place, its name, a tab, its count and the qualifier, and by `form_written` every such line is of this form.
 unfoldable pub of_form : List ℕ → Bool
 of_form line =
     is_place (slice_range line 0 (name_start line))
@@ -43,9 +43,10 @@ of_form line =
 unfoldable pub name_in : List ℕ → List ℕ
 name_in line = cond (of_form line) (slice_range line (name_start line) (name_end line)) []
 
--- its count; "a count above 65,535" is a condition of its own, and does not cost a line its form
+-- its count, which may be above 65,535: that does not cost a line its form
 unfoldable pub count_in : List ℕ → ℕ
 count_in line = value (count_part line)
 
-unfoldable pub in_range : List ℕ → Bool
-in_range line = of_form line && leb (count_in line) 65535
+-- "a line of either file that isn't of its form, a count above 65,535": what every line of the report has to be
+unfoldable pub is_usage : List ℕ → Bool
+is_usage line = of_form line && leb (count_in line) 65535

@@ -7,7 +7,7 @@ abbrev pub before_first : ℕ → List (List ℕ) → List (List ℕ)
 before_first b [] = (b ∷ []) ∷ []
 before_first b (piece ∷ pieces) = (b ∷ piece) ∷ pieces
 
--- a file in pieces: each ends with the first line feed in it, and behind the last line feed stands a piece without one, if any byte does
+-- a file in pieces: each ends with the first line feed in it, and behind the last line feed stands a piece without one, if any byte stands there
 unfoldable pub pieces : List ℕ → List (List ℕ)
 pieces [] = []
 pieces (b ∷ bytes) = cond (eqb b line_feed) ((b ∷ []) ∷ pieces bytes) (before_first b (pieces bytes))
@@ -20,14 +20,14 @@ lines file = length (pieces file)
 abbrev pub piece_at : List ℕ → ℕ → List ℕ
 piece_at file k = get_or (pieces file) k []
 
--- a line "taken without its line feed"
+-- a line "taken without its line feed", if it ends in one
 abbrev pub body : List ℕ → List ℕ
-body piece = take (length piece - 1) piece
+body piece = cond (ends_in line_feed piece) (take (length piece - 1) piece) piece
 
 -- line k of a file without its line feed
 abbrev pub line : List ℕ → ℕ → List ℕ
 line file k = body (piece_at file k)
 
--- a piece ends in a line feed, and what stands before that is of some form
+-- a piece ends in a line feed, and what stands before that is of the form given
 abbrev pub is_line : (List ℕ → Bool) → List ℕ → Bool
 is_line form piece = ends_in line_feed piece && form (body piece)

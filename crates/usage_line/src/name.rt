@@ -32,6 +32,7 @@ fn has_count(line: &[u8], end: usize) -> bool
     requires is { end ≡ name_end line.now }
     ensures { result ≡ (is_count (count_part line.now) && bytes_eq (drop (count_end line.now) line.now) qualifier) }
 {
+    // a tab stands before the count, and the qualifier behind it has seven bytes
     end + 8 <= line.len() && is_qualified(line) && is_count(&line[end + 1..line.len() - 7])
 }
 
@@ -41,6 +42,7 @@ struct Ends {
     end: usize,
 }
 
+// Both are 0 where the line is not of its form.
 fn name_ends(line: &[u8]) -> Ends
     ensures within { (result.start ≤ result.end) × (result.end ≤ length line.now) }
     ensures is { slice_range line.now result.start result.end ≡ name_in line.now }

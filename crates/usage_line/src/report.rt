@@ -1,7 +1,7 @@
 // What a line of the report says of a function.
 ghost use Rattle.std.specs.Prelude.{◌≡◌, ◌<◌, ◌≤◌, true, false, min, MatchOption};
 ghost use Rattle.usage_line.specs.Bytes.{is_count, value};
-ghost use Rattle.usage_line.specs.Line.{of_form, name_in, count_in, in_range};
+ghost use Rattle.usage_line.specs.Line.{of_form, name_in, count_in, is_usage};
 
 use crate::answer::Usage;
 use crate::name::{first_tab, name_found};
@@ -30,9 +30,10 @@ fn count_found(line: &[u8]) -> Option<u16>
 
 // What a line of the report says, and None where it is not of its form or counts more than 65,535.
 pub fn usage(line: &[u8]) -> Option<Usage<'_>>
-    ensures { MatchOption result (in_range line.now ≡ false) (λ u. (in_range line.now ≡ true) × (u.name.now ≡ name_in line.now) × (u.count ≡ count_in line.now)) }
+    ensures { MatchOption result (is_usage line.now ≡ false) (λ u. (is_usage line.now ≡ true) × (u.name.now ≡ name_in line.now) × (u.count ≡ count_in line.now)) }
 {
     let name = name_found(line);
+    // a name has a byte, so the line is not of its form
     if name.is_empty() {
         return None;
     }

@@ -1,13 +1,7 @@
 use mathlib.Core.Path.{sym}
-use native.Mathlib.Omega.{arith}
 use Rattle.stack_usage.specs.Call.{frames_call}
 use Rattle.stack_usage.proofs.Setting.{as_many, fits, set_leaves}
 use Rattle.stack_usage.proofs.frames.Goals as goal
-
-pub slice_bounds-counts-end : goal.slice_bounds-counts-end
-slice_bounds-counts-end c =
-    let for = c.in_ok-counted.ensures.counted in
-    omega (arith, for.few, for.long)
 
 pub slice_bounds-write_frames-end : goal.slice_bounds-write_frames-end
 slice_bounds-write_frames-end c = sym (as_many _ c.in_ok-counted.counted c.in_ok-counted.ensures.counted)

@@ -27,6 +27,6 @@ returns-in-None-clause-named c =
     let all : c.loop-f.f ≡ c.args.functions = omega (arith, c.loop-f.auto.f-end, c.loop-f-test.false) in
     record {
       functions_are = refl;
-      name_is = λ f d h. read.name_is f d (omega (arith, all, h));
+      names_are = λ f d h. read.name_is f d (omega (arith, all, h));
       none_wrong = all_names _ read _ all c.in-None.ensures;
     }

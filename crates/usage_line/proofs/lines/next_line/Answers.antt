@@ -20,5 +20,5 @@ returns c =
       | in-None w ↦
           let none = w.in-None.ensures in
           let some : 0 < length file = omega (arith, eqb-false (length file) 0 cc) in
-          rw w.result-is (subst (λ (behind : List ℕ). IsCut file file false behind) (sym (take_rest file (length file) ∙ drop_all (length file) file (omega arith))) (cut_whole file file some (λ j l. false_from_ne_true _ (none j (omega arith) l))))
+          rw w.result-is (subst (λ (behind : List ℕ). IsCut file file false behind) (sym (take_rest file (length file) ∙ drop_all (length file) file (omega arith))) (cut_whole file some (λ j l. false_from_ne_true _ (none j (omega arith) l))))
     ]
