@@ -5,7 +5,7 @@ use crate::failed::Failed;
 use std::env::{Env, FillError};
 use std::str::from_utf8;
 
-// An argument that has to be there, a path that is text and fits the room.
+// The path in an argument, which has to be there, to be UTF-8 and to fit in the room.
 pub(crate) fn argument<'a>(
     rt: &HostRuntime,
     number: usize,

@@ -11,9 +11,10 @@ use script::{read_file, read_input};
 use stack_usage::frames;
 use std::process::ExitCode;
 
-// How many bytes the longest table has; and how many a list of names may have, of which 64 lines of 65 bytes are needed, and a report.
+// How many bytes each input may have. A table has no more.
 const LONGEST_TABLE: u32 = 12800;
 
+// 64 names of 64 bytes with their line feeds are 4,160 bytes; a longer list can only be refused.
 const LONGEST_LIST: u32 = 65536;
 
 const LONGEST_REPORT: u32 = 4 * 1024 * 1024;

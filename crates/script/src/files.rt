@@ -1,4 +1,6 @@
-// Inputs of a bounded length, in memory that is taken for them.
+// Inputs of a bounded length, in memory that is taken for them: for a program that reads files.
+ghost use Rattle.std.specs.Prelude.{◌≡◌, ◌≤◌, length, IfOk, IfSome};
+
 use std::alloc::Allocator;
 use std::fs::{Files, open};
 use std::io::Read;
@@ -11,12 +13,15 @@ pub enum Unread {
     TooLong,
 }
 
-// Reads an input to its end, which may have so many bytes at most.
+// Reads an input of at most so many bytes, all of it.
 pub fn read_input<R: Read + Drop, A: Allocator>(
     input: R,
     most: u32,
     alloc: A,
-) -> Result<Vec<u8, A>, Unread> {
+) -> Result<Vec<u8, A>, Unread>
+    ensures within { IfOk result (λ bytes. length bytes.items ≤ most) }
+    ensures whole { IfOk result (λ bytes. IfSome (R.remaining input) (λ all. bytes.items ≡ all)) }
+{
     let mut bytes = Vec::new(alloc);
     // one byte more than it may have, so that a longer one is seen to be one
     match input.take(u64::from(most) + 1).read_to_end(&mut bytes) {

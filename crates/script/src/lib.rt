@@ -1,4 +1,4 @@
-// Task tables written as text, for the program that runs worked-out cases and that counts.
+// Task tables written as text, for the program that runs worked-out cases and that counts; and how the programs read their inputs.
 //
 // `! CALL` says which call the runs that follow are of, and `= NAME` begins a table. A line of numbers is a run of its
 // records: kind, sort, a, b, c, and then, where they are given, how many there are (1 if not) and whether a and b go up
