@@ -154,8 +154,8 @@ int main(void)
                              sizes, 3 * NAGBIRO_SIZES, &bits, &place);
     refused(number, place);
 
-    /* Function 2 has no line; and the first line of the report, line 3 with those of the names before it. */
     print_frames(report);
+    /* Function 2 has no line; and then the first line of the report, line 3 with those of the names before it. */
     print_frames(without_tray);
     print_frames(dynamic_fan);
     return 0;

@@ -12,6 +12,12 @@ pub const MOST: usize = 4 << 20;
 /// that is accepted.
 pub const SPARE: &str = ":spare\t7\tstatic\n";
 
+/// A report with just as many bytes as there may be, in lines of 16.
+pub fn longest() -> String {
+    let two = ":main\t08\tstatic\n:leaf\t07\tstatic\n";
+    two.to_string() + &SPARE.repeat((MOST - two.len()) / SPARE.len())
+}
+
 /// The table with these frames of its two functions.
 fn with_frames(frames: [u16; 2]) -> Vec<u8> {
     let mut table = TABLE.to_vec();
@@ -38,6 +44,7 @@ fn accepted() -> Vec<(String, String, [u16; 2])> {
         (NAMES.into(), format!("{two}{}:x\t{}7\tstatic\n", "deep/".repeat(9_999), "0".repeat(9_999)), [65_535, 7]),
         // About as long as may be, with the lines that count behind all others
         (NAMES.into(), spare + last, [258, 0]),
+        (NAMES.into(), longest(), [8, 7]),
     ]
 }
 
@@ -60,7 +67,14 @@ fn refused() -> Vec<(Vec<u8>, String, String, u32, usize)> {
         of_files("main\nleaf\n\n", &both, 13, 2),
         of_files(&format!("main\n{}\n", "n".repeat(65)), &both, 13, 1),
         of_files("a.c:main\nleaf\n", &both, 13, 0),
+        of_files("main\tx\nleaf\n", &both, 13, 0),
         of_files(NAMES, "\n", 13, 2),
+        of_files(NAMES, ":\t8\tstatic\n", 13, 2),
+        of_files(NAMES, ":main\t\tstatic\n", 13, 2),
+        of_files(NAMES, ":main\t8x\tstatic\n", 13, 2),
+        of_files(NAMES, ":main\tstatic\n", 13, 2),
+        of_files(NAMES, ":main\t8\tstatic\tx\n", 13, 2),
+        of_files(NAMES, "src\t:main\t8\tstatic\n", 13, 2),
         of_files(NAMES, &both[..both.len() - 1], 13, 3),
         of_files(NAMES, &(both.clone() + "spare\t7\tstatic\n"), 13, 4),
         of_files(NAMES, &(both.clone() + ":spare\t65536\tstatic\n"), 13, 4),
@@ -119,7 +133,7 @@ mod tests {
     #[test]
     fn the_longest_report() {
         let longest = accepted().into_iter().map(|(_, report, _)| report.len()).max().expect("a report");
-        assert!(longest < MOST && longest + SPARE.len() > MOST);
+        assert_eq!(longest, MOST);
         assert_eq!((SPARE.len(), MOST % SPARE.len()), (16, 0));
     }
 

@@ -1,6 +1,6 @@
 //! Files and arguments that are missing or too much, and an input or an output that fails.
 
-use crate::by_hand::{MOST, SPARE};
+use crate::by_hand::{longest, MOST, SPARE};
 use crate::ends::{fails, refuses};
 use crate::Frames;
 use programs::failures::{end, run, FAILURES, TABLE};
@@ -18,12 +18,15 @@ fn arguments(frames: &Frames) -> Result<Vec<Vec<String>>, String> {
     let (names, report) = (frames.file("names", NAMES.as_bytes())?, frames.file("report", REPORT.as_bytes())?);
     // A part of it would be accepted.
     let long = frames.file("long", (REPORT.to_string() + &SPARE.repeat((MOST + MORE) / SPARE.len())).as_bytes())?;
+    // A byte more than there may be.
+    let over = frames.file("over", ("a".to_string() + &longest()).as_bytes())?;
+    let many = frames.file("many", (NAMES.to_string() + &"x\n".repeat(40_000)).as_bytes())?;
     let none = frames.folder.join("none").display().to_string();
     let folder = frames.folder.display().to_string();
-    let pairs =
-        [[&names, &none], [&none, &report], [&none, &none], [&names, &folder], [&folder, &report], [&names, &long]];
-    let mut all = vec![vec![], vec![names.clone()]];
-    all.extend(pairs.map(|pair| pair.map(String::clone).to_vec()));
+    let missing = [[&names, &none], [&none, &report], [&none, &none], [&names, &folder], [&folder, &report]];
+    let too_long = [[&names, &long], [&names, &over], [&many, &report]];
+    let mut all = vec![vec![], vec![names.clone()], vec![names.clone(), report.clone(), report.clone()]];
+    all.extend(missing.iter().chain(&too_long).map(|pair| pair.map(String::clone).to_vec()));
     Ok(all)
 }
 
