@@ -65,16 +65,17 @@ uint32_t nagbiro_check(const uint8_t *table, size_t table_length, size_t *a, siz
  * Reads: table; names, one line for each function in number order, its name and nothing else;
  * report, in each line a place that ends in a colon, the name of a function, a tab, a count in
  * decimal, a tab and the word static, as GCC writes it with -fstack-usage. A name has 1 to 64 bytes,
- * and no tab, colon or line feed among them. A place has no tab, and may be the colon alone. Every
- * line of both ends in a line feed. Lines of the report whose name is not listed are passed over, but
- * have to be of this form too.
- * Returns 0, and writes the count of each function to its frame, two bytes of table. All else that
- * stands in table, and place, is kept.
+ * and no tab, colon or line feed among them. A place has no tab, and may be the colon alone. A count
+ * is up to 65,535, and may have zeros before it. Every line of both ends in a line feed. Lines of the
+ * report whose name is not listed are passed over, but have to be of this form too.
+ * Returns 0, and writes the count of each function to its frame, two bytes of table. No other byte
+ * of table is written; place is kept.
  * Else returns the refusal, 1 to 8, 13 or 14, and writes its place to place; table is kept. 13 is
  * given for a line that is not of its form, a count above 65,535, and a line too many or too few in
- * names. Its place is that line, the number of functions where it is one too many; a line of the
- * report has the number of functions added to its own. Then 14 is given for a function with no line
- * in the report or more than one, and its place is the function.
+ * names. Its place is the first such line, names before report, counted from 0: the number of
+ * functions for a line too many, how many lines there are for one that is missing, and for a line of
+ * the report its own number and the number of functions. Then 14 is given for a function with no line
+ * in the report or more than one, and its place is the first such function.
  * Needs: NAGBIRO_FRAMES_STACK bytes of stack.
  */
 #define NAGBIRO_FRAMES_STACK (16 * 1024)
