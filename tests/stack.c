@@ -101,9 +101,10 @@ static void make_full_size(struct table *table)
             put(table, NODE, sorts[i], f, has_target ? (5 * f + 11 * i) % 64 : 0, 0);
         }
     for (int f = 0; f < 64; f++)
-        for (int i = 0; i < 16; i++) {
-            int to = i < 7 ? i + 1 : (3 * i + f) % 7;
-            put(table, EDGE, 0, 8 * f + i % 8, 8 * f + to, 0);
+        for (int i = 0; i < 8; i++) {
+            int to = i < 7 ? i + 1 : 6;
+            put(table, EDGE, 0, 8 * f + i, 8 * f + (3 * i + f) % to, 0);
+            put(table, EDGE, 0, 8 * f + i, 8 * f + to, 0);
         }
 }
 

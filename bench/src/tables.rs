@@ -1,6 +1,7 @@
 //! The tables that are measured.
 
 use second::random::{record, Random};
+use std::collections::BTreeSet;
 
 const PLAIN: u8 = 0;
 const CALL: u8 = 1;
@@ -16,7 +17,8 @@ pub struct Table {
 struct Records {
     functions: Vec<[u8; 8]>,
     nodes: Vec<[u8; 8]>,
-    edges: Vec<[u8; 8]>,
+    // In ascending order, each once.
+    edges: BTreeSet<(usize, usize)>,
 }
 
 impl Records {
@@ -34,11 +36,12 @@ impl Records {
     }
 
     fn edge(&mut self, from: usize, to: usize) {
-        self.edges.push(record(3, 0, from, to, 0));
+        self.edges.insert((from, to));
     }
 
     fn table(self, name: &'static str) -> Table {
-        Table { name, bytes: [self.functions, self.nodes, self.edges].concat().concat() }
+        let edges = self.edges.into_iter().map(|(from, to)| record(3, 0, from, to, 0)).collect();
+        Table { name, bytes: [self.functions, self.nodes, edges].concat().concat() }
     }
 }
 
@@ -96,17 +99,22 @@ enum Order {
     Random,
 }
 
-// One function of 510 nodes in a line, with a spawn of a leaf at every fiftieth.
+// One function of 510 nodes in a line, numbered in this order, with a spawn of a leaf at every fiftieth.
 fn line(name: &'static str, order: Order) -> Table {
-    let mut records = Records::default();
-    let nodes: Vec<_> = (0..510).map(|n| if n % 50 == 7 { (SPAWN, 1) } else { (PLAIN, 0) }).collect();
-    records.function(40, &nodes);
-    records.function(24, &[(PLAIN, 0)]);
+    let mut numbers: Vec<usize> = (0..510).collect();
     match order {
         Order::Ascending => {}
-        Order::Descending => records.edges.reverse(),
-        Order::Random => Random::new(7).shuffle(&mut records.edges),
+        Order::Descending => numbers.reverse(),
+        Order::Random => Random::new(7).shuffle(&mut numbers),
     }
+    let mut records = Records::default();
+    records.functions.push(record(1, 1, numbers[0], numbers[509], 40));
+    records.nodes = vec![record(2, PLAIN, 0, 0, 0); 510];
+    for place in (7..510).step_by(50) {
+        records.nodes[numbers[place]] = record(2, SPAWN, 0, 1, 0);
+    }
+    numbers.windows(2).for_each(|pair| records.edge(pair[0], pair[1]));
+    records.function(24, &[(PLAIN, 0)]);
     records.table(name)
 }
 

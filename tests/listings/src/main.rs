@@ -1,6 +1,6 @@
 //! Runs listing programs on the tables under data/ and compares all that they print with the listings beside them,
-//! which were worked out by hand from document 01. Prints how many data sets were run, or the first difference, and
-//! then ends with status 1. Arguments: the programs.
+//! which were worked out by hand from documents 01 and 02. Prints how many data sets were run, or the first
+//! difference, and then ends with status 1. Arguments: the programs.
 
 mod table;
 

@@ -8,7 +8,8 @@
 //!
 //! For what is no table: `record KIND SORT A B C` with any numbers, and `bytes B B ..` with single bytes.
 //! `times N` before any of these repeats it, and a number START+STEP goes up from one time to the next:
-//! `times 3 edge 0+1 1+1` stands for the edges 0-1, 1-2, 2-3.
+//! `times 3 edge 0+1 1+1` stands for the edges 0-1, 1-2, 2-3. Several with ` ; ` between them are repeated in turn:
+//! `times 2 edge 0+1 0+1 ; edge 0+1 5` stands for the edges 0-0, 0-5, 1-1, 1-5.
 
 /// The bytes of a table, or the line that isn't one of the above.
 pub fn encode(text: &str) -> Result<Vec<u8>, String> {
@@ -23,7 +24,10 @@ pub fn encode(text: &str) -> Result<Vec<u8>, String> {
 fn add_line(bytes: &mut Vec<u8>, words: &[&str]) -> Result<(), String> {
     match words {
         [] => Ok(()),
-        ["times", count, rest @ ..] => (0..plain_number(count)?).try_for_each(|turn| add_record(bytes, rest, turn)),
+        ["times", count, rest @ ..] => {
+            let mut turns = 0..plain_number(count)?;
+            turns.try_for_each(|turn| rest.split(|&word| word == ";").try_for_each(|one| add_record(bytes, one, turn)))
+        }
         _ => add_record(bytes, words, 0),
     }
 }
@@ -97,13 +101,23 @@ mod tests {
         assert_eq!(encode("times 3 edge 0+1 7"), encode("edge 0 7\nedge 1 7\nedge 2 7"));
         assert_eq!(encode("times 2 bytes 4+3 1"), Ok(vec![4, 1, 7, 1]));
         assert_eq!(encode("times 0 plain 0"), Ok(vec![]));
+        let two = "edge 0 0\nedge 0 5\nedge 2 1\nedge 1 5";
+        assert_eq!(encode("times 2 edge 0+2 0+1 ; edge 0+1 5"), encode(two));
     }
 
     #[test]
     fn other_lines_are_errors() {
-        for line in
-            ["plan 0", "plain", "plain 0 0", "edge 0 65536", "bytes 256", "times 2", "times x plain 0", "sync -1"]
-        {
+        for line in [
+            "plan 0",
+            "plain",
+            "plain 0 0",
+            "edge 0 65536",
+            "bytes 256",
+            "times 2",
+            "times x plain 0",
+            "times 1 plain 0 ;",
+            "sync -1",
+        ] {
             assert!(encode(&format!("plain 0\n{line}")).is_err_and(|what| what.starts_with("line 2: ")), "{line}");
         }
     }

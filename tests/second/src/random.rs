@@ -1,5 +1,7 @@
 //! Random tables for comparisons. All of them are accepted, unless their shape asks for more than a table may hold.
 
+use std::collections::BTreeSet;
+
 /// A xorshift generator.
 pub struct Random(u64);
 
@@ -29,6 +31,18 @@ impl Random {
         for i in (1..all.len()).rev() {
             all.swap(i, self.below(i + 1));
         }
+    }
+
+    /// So many of these, or all if there are fewer, as they stand.
+    pub fn some<T>(&mut self, mut all: Vec<T>, count: usize) -> Vec<T> {
+        let (mut left, mut wanted) = (all.len(), count);
+        all.retain(|_| {
+            let is_taken = wanted > self.below(left);
+            left -= 1;
+            wanted -= is_taken as usize;
+            is_taken
+        });
+        all
     }
 }
 
@@ -62,7 +76,8 @@ pub struct Shape {
     pub chain: bool,
     /// In a chain: calls and spawns of earlier functions go back to one of so many before, or to the function itself.
     pub back: usize,
-    /// At least so many functions, nodes and edges, whatever the numbers above say. Edges ask for loops here.
+    /// At least so many functions, nodes and edges, whatever the numbers above say. Edges ask for as many pairs of nodes
+    /// of one function, since each stands in a table once.
     pub fill: [usize; 3],
 }
 
@@ -225,24 +240,30 @@ fn any_edge(random: &mut Random, shape: Shape, line: &[usize]) -> Option<(usize,
     None
 }
 
+/// All edges that a function may have.
+fn all_edges(shape: Shape, line: &[usize]) -> Vec<(usize, usize)> {
+    let later = |i: usize| if shape.loops { line } else { &line[i + 1..] };
+    line.iter().enumerate().flat_map(|(i, &from)| later(i).iter().map(move |&to| (from, to))).collect()
+}
+
 /// Mostly a line in each function, sometimes with a gap, and some edges more.
-fn edges(random: &mut Random, shape: Shape, functions: &[Function]) -> Vec<(usize, usize)> {
-    let mut edges = Vec::new();
+fn edges(random: &mut Random, shape: Shape, functions: &[Function]) -> BTreeSet<(usize, usize)> {
+    let mut edges = BTreeSet::new();
     for function in functions {
         for pair in function.line.windows(2) {
             if !random.once_in(15) {
-                edges.push((pair[0], pair[1]));
+                edges.insert((pair[0], pair[1]));
             }
         }
         for _ in 0..random.below(3) {
             edges.extend(any_edge(random, shape, &function.line));
         }
     }
-    while edges.len() < shape.fill[2] {
-        let f = random.below(functions.len());
-        edges.extend(any_edge(random, shape, &functions[f].line));
+    if edges.len() < shape.fill[2] {
+        let mut others: Vec<_> = functions.iter().flat_map(|function| all_edges(shape, &function.line)).collect();
+        others.retain(|edge| !edges.contains(edge));
+        edges.extend(random.some(others, shape.fill[2] - edges.len()));
     }
-    random.shuffle(&mut edges);
     edges
 }
 
