@@ -1,76 +1,30 @@
--- Laws of sets kept in words.
+-- Laws of sets kept in eight words.
 use Prim.Native.Nat.{ℕ, ◌+◌, ◌*◌, ◌/◌, ◌%◌, ◌≤◌, ◌<◌}
-use mathlib.Core.Path.{◌≡◌, refl, sym, ap, ap₂, ◌∙◌}
-use mathlib.Core.Bool.{Bool, false, ◌&&◌, ◌||◌}
+use mathlib.Core.Path.{◌≡◌, sym, ap, ap₂, ◌∙◌}
+use mathlib.Core.Bool.{Bool, ◌&&◌, ◌||◌}
 use mathlib.Core.Logic.{⊎_elim}
 use mathlib.Core.List.{List}
 use native.Mathlib.Omega.{arith}
-use lib.Dec.{eqb, ltb}
-use lib.ListN.{length, get_or, set, replicate, get_or-replicate, get_or-eq_default}
+use lib.Dec.{ltb}
+use lib.ListN.{length, get_or, set}
 use lib.Seq.{ext_get_or, get_or-set_same, get_or-set_other}
-use borrow.Author.Tests.{eq-eqb, ne_eqb, lt-ltb, le-ltb}
+use borrow.Author.Tests.{lt-ltb, le-ltb}
 use Rattle.std.proofs.lemmas.Bool.{cases_lt, cases_order}
 use Rattle.table.proofs.Booleans.{or_false}
-use Rattle.word.proofs.Bits.{bit_none, word_same}
+use Rattle.word.proofs.Bits.{word_same}
+use Rattle.word.proofs.Words.{member_past, member_at}
 use Rattle.sync.specs.Words.{bit, member, Eight}
-
--- ---- members
-
-module _ (w : List ℕ) (long : length w ≡ 8) where
-  -- past the words there is no member
-  pub member_past : (n : ℕ) → 512 ≤ n → member w n ≡ false
-  unfolding member
-  member_past n h = ap (λ (x : ℕ). bit x (n % 64)) (get_or-eq_default w 0 (omega arith)) ∙ bit_none (n % 64)
-
-  -- a word replaced by one with bit n mod 64 besides: the set has n besides
-  pub member_with : (n r : ℕ) → n < 512 → ((j : ℕ) → bit r j ≡ (eqb j (n % 64) || bit (get_or w (n / 64) 0) j)) → (m : ℕ) → member (set w (n / 64) r) m ≡ (eqb m n || member w m)
-  unfolding member
-  member_with n r hn h m =
-      ⊎_elim same (⊎_elim (λ q. other (λ e. omega arith)) (λ q. other (λ e. omega arith))) (cases_order (m / 64) (n / 64))
-    where
-      low : m / 64 ≡ n / 64 → eqb (m % 64) (n % 64) ≡ eqb m n
-      low e =
-          ⊎_elim
-          (λ q. eq-eqb (m % 64) (n % 64) (ap (λ (a : ℕ). a % 64) q) ∙ sym (eq-eqb m n q))
-          (λ o. ne_eqb (m % 64) (n % 64) (λ q. ⊎_elim (λ a. omega arith) (λ a. omega arith) o)
-          ∙ sym (ne_eqb m n (λ q. ⊎_elim (λ a. omega arith) (λ a. omega arith) o)))
-          (cases_order m n)
-
-      same : m / 64 ≡ n / 64 → member (set w (n / 64) r) m ≡ (eqb m n || member w m)
-      same e =
-          ap (λ (a : ℕ). bit (get_or (set w (n / 64) r) a 0) (m % 64)) e
-          ∙ ap (λ (a : ℕ). bit a (m % 64)) (get_or-set_same w (n / 64) r 0 (omega arith))
-          ∙ h (m % 64)
-          ∙ ap₂ (λ (a b : Bool). a || b) (low e) (ap (λ (a : ℕ). bit (get_or w a 0) (m % 64)) (sym e))
-
-      other : (m / 64 ≡ n / 64 → ⊥) → member (set w (n / 64) r) m ≡ (eqb m n || member w m)
-      other d =
-          ap (λ (a : ℕ). bit a (m % 64)) (get_or-set_other w (n / 64) (m / 64) r 0 d)
-          ∙ ap (λ (b : Bool). b || member w m) (sym (ne_eqb m n (λ q. d (ap (λ (a : ℕ). a / 64) q))))
 
 -- ---- words with the same bits are the same
 
 pub words_same : (w v : List ℕ) → Eight w → Eight v → ((n : ℕ) → member w n ≡ member v n) → w ≡ v
-unfolding member
 words_same w v p q h = ext_get_or 0 w v (p.long ∙ sym q.long) each
   where
     each : (i : ℕ) → i < length w → get_or w i 0 ≡ get_or v i 0
     each i l = word_same 64 (get_or w i 0) (get_or v i 0) (p.fit i) (q.fit i) bits
       where
         bits : (j : ℕ) → j < 64 → bit (get_or w i 0) j ≡ bit (get_or v i 0) j
-        bits j b =
-            let d : (i * 64 + j) / 64 ≡ i = omega arith in
-            let m : (i * 64 + j) % 64 ≡ j = omega arith in
-            sym (ap₂ (λ (a c : ℕ). bit (get_or w a 0) c) d m) ∙ h (i * 64 + j) ∙ ap₂ (λ (a c : ℕ). bit (get_or v a 0) c) d m
-
--- the empty words have no member
-pub member_empty : (n : ℕ) → member (replicate 8 0) n ≡ false
-unfolding member
-member_empty n =
-    ⊎_elim
-    (λ (h : n < 512). ap (λ (x : ℕ). bit x (n % 64)) (get_or-replicate 8 (n / 64) 0 0 (omega arith)) ∙ bit_none (n % 64))
-    (λ (h : 512 ≤ n). member_past (replicate 8 0) refl n h)
-    (cases_lt n 512)
+        bits j b = sym (member_at w i j b) ∙ h (64 * i + j) ∙ member_at v i j b
 
 -- ---- two sets word by word
 
@@ -104,5 +58,5 @@ module _ (x y : List ℕ) where
   member_union p q w s h n =
       ⊎_elim
       (λ (l : n < 512). h (n / 64) (n % 64) ∙ ap (λ (b : Bool). bit (get_or x (n / 64) 0) (n % 64) || (b && bit (get_or y (n / 64) 0) (n % 64))) (lt-ltb (n / 64) 8 (omega arith)))
-      (λ (l : 512 ≤ n). member_past w s n l ∙ sym (ap₂ (λ (a b : Bool). a || b) (member_past x p n l) (member_past y q n l)))
+      (λ (l : 512 ≤ n). member_past w n (omega (arith, s, l)) ∙ sym (ap₂ (λ (a b : Bool). a || b) (member_past x n (omega (arith, p, l))) (member_past y n (omega (arith, q, l)))))
       (cases_lt n 512)

@@ -4,6 +4,7 @@ use mathlib.Core.Path.{◌≡◌, refl, sym, ap, ◌∙◌}
 use mathlib.Core.List.{List}
 use mathlib.Core.Bool.{Bool, true, false, not, ◌&&◌, ◌||◌}
 use mathlib.Core.Logic.{⊎_elim}
+use native.Mathlib.Omega.{arith}
 use lib.Dec.{eqb}
 use lib.ListN.{length}
 use borrow.Author.Tests.{eq-eqb, not-true, not-false}
@@ -13,7 +14,7 @@ use Rattle.table.specs.Below.{any, count}
 use Rattle.table.proofs.Below.{any_which, any_some, count_le, count_strict}
 use Rattle.sync.specs.Words.{member}
 use Rattle.sync.specs.Room.{room}
-use Rattle.sync.proofs.Members.{member_past}
+use Rattle.word.proofs.Words.{member_past}
 
 pub room_fits : (w : List ℕ) → room w ≤ 512
 unfolding room
@@ -51,4 +52,4 @@ room_grown u v p q keeps other = ⊎_elim grown (λ f. absurd (other (same f))) 
     back f n l h = not-false (member u n) (and_false_right (member v n) (not (member u n)) (⊎_elim (λ t. not_both (any more 512) (any_some more 512 n l t) f) (λ o. o) (either_way (more n))) h)
 
     same : any more 512 ≡ false → (n : ℕ) → member v n ≡ member u n
-    same f n = same_test (member v n) (member u n) (⊎_elim (λ (l : n < 512). back f n l) (λ (l : 512 ≤ n). λ h. not_both (member v n) h (member_past v q n l)) (cases_lt n 512)) (keeps n)
+    same f n = same_test (member v n) (member u n) (⊎_elim (λ (l : n < 512). back f n l) (λ (l : 512 ≤ n). λ h. not_both (member v n) h (member_past v n (omega (arith, q, l)))) (cases_lt n 512)) (keeps n)

@@ -1,11 +1,8 @@
 -- Document 01, "Synchronising nodes": "The set is kept as one bit for each node, in 64-bit words: node n is bit n mod 64, lowest first, of
 -- word n div 64."
-use Rattle.std.specs.Prelude.{ℕ, ◌/◌, ◌%◌, ◌^◌, ◌<◌, ◌≡◌, List, Bool, length, get_or}
+use Rattle.std.specs.Prelude.{ℕ, ◌^◌, ◌<◌, ◌≡◌, List, length, get_or}
 pub use Rattle.word.specs.Bit.{bit}
-
--- the set that the words keep; past the last word there is none
-unfoldable pub member : List ℕ → ℕ → Bool
-member words n = bit (get_or words (n / 64) 0) (n % 64)
+unfoldable pub use Rattle.word.specs.Words.{member}
 
 -- eight words of 64 bits, as an array of the code is
 pub record Eight (words : List ℕ) : Type 0 where

@@ -4,7 +4,7 @@ ghost use Rattle.std.specs.Prelude.{◌≡◌, ◌||◌, ◌↔◌, ℕ, ◌<◌
 ghost use Rattle.sync.specs.Words.{member};
 
 // Whether n is in the set.
-#[tactic(auto, using(crate::proofs::Members::member_past), unfolding(crate::specs::Words::member))]
+#[tactic(auto, using(word::proofs::Words::member_past), unfolding(word::specs::Words::member))]
 pub fn has(set: [u64; 8], n: usize) -> bool
     ensures { result ≡ member set n }
 {

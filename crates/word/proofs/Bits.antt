@@ -1,17 +1,19 @@
 -- Laws of the bits of a word, by the library's, which speak of a bit as a number.
-use Prim.Native.Nat.{ℕ, zero, suc, ◌*◌, ◌%◌, ◌^◌, ◌<◌, ◌≤◌, min, max}
+use Prim.Native.Nat.{ℕ, zero, suc, ◌+◌, ◌-◌, ◌*◌, ◌/◌, ◌%◌, ◌^◌, ◌<◌, ◌≤◌, min, max}
 use mathlib.Core.Path.{◌≡◌, refl, ap, sym, ◌∙◌}
 use mathlib.Core.Bool.{Bool, true, false, true≢false, ◌||◌}
-use native.Mathlib.Nat.{one-mul}
+use mathlib.Core.Logic.{⊎_elim}
+use native.Mathlib.Nat.{one-mul, div-div-eq-div-mul, div-le_self}
 use native.Mathlib.Omega.{arith}
 use lib.Bits.{bit_and, bit_or}
 use lib.Dec.{eqb}
 use lib.Pow.{shl_exact}
 use borrow.Author.Tests.{eqb-true, eq-eqb, eqb-false}
-use Rattle.std.specs.Int.{bit_at}
+use Rattle.std.specs.Int.{bit_at, trailing_zeros, w64}
 use Rattle.std.proofs.Math.Bool.{or_comm}
-use Rattle.std.proofs.lemmas.Nat.{and_le_l}
-use Rattle.std.proofs.lemmas.Nat.Bits.{bit_at-lt, bit_at-zero, bit_at_above, bit_at_and, bit_at_or, bit_at-pow_same, bit_at-pow_other, same_from_bits_below}
+use Rattle.std.proofs.lemmas.Bool.{cases_lt}
+use Rattle.std.proofs.lemmas.Nat.{and_le_l, pow-add}
+use Rattle.std.proofs.lemmas.Nat.Bits.{bit_at-lt, bit_at-zero, bit_at_above, bit_at_and, bit_at_or, bit_at-pow_same, bit_at-pow_other, bit_at-trailing_zeros, same_from_bits_below}
 use Rattle.word.specs.Bit.{bit}
 
 -- a digit by its test
@@ -87,3 +89,30 @@ unfolding bit
 within_each x y e j t =
     let one : bit_at x j ≡ 1 = eqb-true (bit_at x j) 1 t in
     eq-eqb (bit_at y j) 1 (omega (arith, one, bit_at-lt y j, bit_at_and x y j, ap (λ (n : ℕ). bit_at n j) e))
+
+-- ---- the first bit from k on
+
+-- a word without its lowest k bits
+bit_shift : (x k i : ℕ) → bit (x / 2 ^ k) i ≡ bit x (k + i)
+unfolding bit
+bit_shift x k i = ap (λ (n : ℕ). eqb (n % 2) 1) (div-div-eq-div-mul x (2 ^ k) (2 ^ i) ∙ ap (λ (n : ℕ). x / n) (sym (pow-add 2 k i)))
+
+module _ (x k : ℕ) where
+  pub none_from : x / 2 ^ k ≡ 0 → (j : ℕ) → k ≤ j → bit x j ≡ false
+  none_from e j h = ap (λ (i : ℕ). bit x i) (omega arith) ∙ sym (bit_shift x k (j - k)) ∙ ap (λ (y : ℕ). bit y (j - k)) e ∙ bit_none (j - k)
+
+  module _ (fits : x < 2 ^ 64) (some : 0 < x / 2 ^ k) where
+    lowest : (bit (x / 2 ^ k) (trailing_zeros w64 (x / 2 ^ k)) ≡ true) × ((i : ℕ) → i < trailing_zeros w64 (x / 2 ^ k) → bit (x / 2 ^ k) i ≡ false)
+    unfolding bit
+    lowest =
+        let z = bit_at-trailing_zeros w64 (x / 2 ^ k) some (omega (arith, div-le_self x (2 ^ k))) in
+        (ap (λ (n : ℕ). eqb n 1) z.1, λ i l. ap (λ (n : ℕ). eqb n 1) (z.2 i l))
+
+    pub first_is : bit x (k + trailing_zeros w64 (x / 2 ^ k)) ≡ true
+    first_is = sym (bit_shift x k _) ∙ lowest.0
+
+    pub none_before : (i : ℕ) → k ≤ i → i < k + trailing_zeros w64 (x / 2 ^ k) → bit x i ≡ false
+    none_before i h l = ap (λ (j : ℕ). bit x j) (omega arith) ∙ sym (bit_shift x k (i - k)) ∙ lowest.1 (i - k) (omega arith)
+
+pub bit_below : (x j : ℕ) → x < 2 ^ 64 → bit x j ≡ true → j < 64
+bit_below x j fits h = ⊎_elim (λ l. l) (λ (p : 64 ≤ j). absurd (true≢false (sym h ∙ bit_past x j fits p))) (cases_lt j 64)

@@ -1,2 +1,4 @@
 -- What is believed.
 pub mod Bit
+pub mod First
+pub mod Words

@@ -4,11 +4,11 @@ use mathlib.Core.Logic.{⊎_elim}
 use borrow.Author.Tests.{lt-ltb, le-ltb}
 use Rattle.std.proofs.lemmas.Bool.{cases_lt}
 use Rattle.table.proofs.Laws.{nodes_read, sort_past}
-use Rattle.sync.proofs.Members.{member_empty}
+use Rattle.word.proofs.Words.{member_empty}
 use Rattle.sync.proofs.collect.syncs.Goals as goal
 
 pub loop-n-init : goal.loop-n-init
-loop-n-init c = λ m. member_empty m ∙ rw (le-ltb m 0 (omega arith)) refl
+loop-n-init c = λ m. member_empty 8 m ∙ rw (le-ltb m 0 (omega arith)) refl
 
 pub returns : goal.returns
 returns c = λ n.

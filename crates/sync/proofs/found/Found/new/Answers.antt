@@ -1,6 +1,6 @@
 use native.Mathlib.Omega.{arith}
 use lib.ListN.{replicate}
-use Rattle.sync.proofs.Members.{member_empty}
+use Rattle.word.proofs.Words.{member_empty}
 use Rattle.sync.proofs.Rooms.{room_fits}
 use Rattle.sync.proofs.found.Found.new.Goals as goal
 
@@ -8,4 +8,4 @@ pub invariant_of-result : goal.invariant_of-result
 invariant_of-result c = record { few = rw c.new.ensures (omega (arith, room_fits (replicate 8 0))) }
 
 pub returns-clause-set : goal.returns-clause-set
-returns-clause-set c = member_empty
+returns-clause-set c = member_empty 8

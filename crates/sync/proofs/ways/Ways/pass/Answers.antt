@@ -4,13 +4,13 @@ use mathlib.Core.Path.{refl, subst}
 use Rattle.call_order.specs.CallOrder.{places}
 use Rattle.table.specs.Program.{program_of}
 use Rattle.sync.specs.Passing.{PassedBy}
-use Rattle.sync.proofs.Members.{member_empty}
+use Rattle.word.proofs.Words.{member_empty}
 use Rattle.sync.proofs.Passing.{passed_none, passed_more}
 use Rattle.sync.proofs.Closing.{part_syncs, settled_first}
 use Rattle.sync.proofs.ways.Ways.pass.Goals as goal
 
 pub loop-i-init : goal.loop-i-init
-loop-i-init c = passed_none _ _ _ _ refl member_empty
+loop-i-init c = passed_none _ _ _ _ refl (member_empty 8)
 
 pub loop-i-preserved : goal.loop-i-preserved
 loop-i-preserved c = passed_more _ _ _ _ _ _ c.loop-i.invariant (rw c.from.ensures at c.look-pass.ensures)
