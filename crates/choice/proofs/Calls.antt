@@ -11,10 +11,9 @@ use Rattle.table.specs.Checks.{checks, Accepted}
 use Rattle.table.specs.Program.{program_of}
 use Rattle.table.proofs.Refusals.{whole_here, whole_pass, whole_passes, refusal_over_none}
 use Rattle.rules.specs.Rules.{entries}
-use Rattle.table.specs.Result.{done, refused}
-use Rattle.sizes.specs.Call.{sizes_result}
+use Rattle.table.specs.Result.{done, refused, room_result}
 use Rattle.table.proofs.Results.{told_refused, none_refused, table_accepted}
-use Rattle.sizes.proofs.Calls.{last_row, sizes_fit}
+use Rattle.table.proofs.Results.{last_row, room_fits}
 use Rattle.choice.specs.Call.{BestCall, few_verdicts, buffer_checks, best_checks, best_result}
 
 module _ (x : BestCall) (a : Accepted x.table) where
@@ -35,7 +34,7 @@ module _ (x : BestCall) (a : Accepted x.table) where
         let s : (program_of x.table).nodes ≤ x.verdicts = omega arith in
         past_table ∙ whole_pass x 10 few_verdicts _ _ (le-ltb x.verdicts (program_of x.table).nodes s)
 
-    pub sizes_decide : nodes ≤ x.verdicts → (needed : ℕ) → needed ≡ entries (program_of x.table) → sizes_result needed x.buffer ≡ best_result x
+    pub sizes_decide : nodes ≤ x.verdicts → (needed : ℕ) → needed ≡ entries (program_of x.table) → room_result needed x.buffer ≡ best_result x
     unfolding best_result buffer_checks
     sizes_decide h = last_row _ _ x best_checks (past_verdicts h)
 
@@ -61,5 +60,5 @@ done_fits x d =
     let b = sym (past_table x t) ∙ n in
     record {
       verdicts = verdicts_fit x b;
-      sizes = sizes_fit (λ (y : BestCall). entries (program_of y.table)) (λ (y : BestCall). y.buffer) x buffer_checks (search in_List depth 40) b;
+      sizes = room_fits (λ (y : BestCall). entries (program_of y.table)) (λ (y : BestCall). y.buffer) x buffer_checks (search in_List depth 40) b;
     }

@@ -16,7 +16,7 @@ use Rattle.std.specs.Prelude.{Ok, Err}
 use Rattle.std.specs.Prelude.{Result as CodeResult}
 use Rattle.table.specs.declared.refusal.Refused.{Refused}
 use Rattle.table.proofs.Results.{is_done}
-use Rattle.sizes.proofs.Calls.{long_enough}
+use Rattle.table.proofs.Results.{long_enough}
 use Rattle.choice.specs.Beats.{Best, Returned}
 use Rattle.choice.specs.Call.{best_call, best_result, LeavesBoth}
 use Rattle.choice.proofs.Calls.{sizes_decide}

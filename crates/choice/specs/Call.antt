@@ -5,8 +5,8 @@ use Rattle.table.specs.Checks.{checks}
 use Rattle.table.specs.Program.{program_of}
 use Rattle.size.specs.Numbers.{Written}
 use Rattle.rules.specs.Rules.{entries}
-use Rattle.table.specs.Result.{Result, done, refused, result_for, result_of}
-use Rattle.sizes.specs.Call.{choice_of, sizes_row, LeavesFor}
+use Rattle.table.specs.Result.{Result, done, refused, result_for, result_of, room_row}
+use Rattle.sizes.specs.Call.{choice_of, LeavesFor}
 use Rattle.std.specs.Prelude.{Result as CodeResult}
 use Rattle.table.specs.declared.refusal.Refused.{Refused}
 use Rattle.choice.specs.Beats.{Returned}
@@ -28,7 +28,7 @@ few_verdicts x = ltb x.verdicts (program_of x.table).nodes
 unfoldable pub buffer_checks : List (Check BestCall)
 buffer_checks =
     record { number = 10; place = of_whole few_verdicts (λ x. (program_of x.table).nodes) }
-    ∷ sizes_row (λ (x : BestCall). entries (program_of x.table)) (λ (x : BestCall). x.buffer)
+    ∷ room_row (λ (x : BestCall). entries (program_of x.table)) (λ (x : BestCall). x.buffer)
     ∷ []
 
 -- "The lowest number wins": those on the table itself first.

@@ -6,8 +6,8 @@ ghost use Rattle.choice.specs.Call.{best_call, best_result};
 
 use program::Program;
 use sizes::Known;
-use sizes::admit::{judge_sizes, look};
-use table::refusal::{Cause, Refused};
+use sizes::admit::look;
+use table::refusal::{Cause, Refused, judge_room};
 
 // Judges the lengths of both buffers.
 #[tactic(auto, using(crate::proofs::Calls::verdicts_refused))]
@@ -21,7 +21,7 @@ fn judge(program: &Program<'_>, verdicts: usize, buffer: usize) -> Result<(), Re
             place: nodes,
         });
     }
-    judge_sizes(program.entries(), buffer)
+    judge_room(program.entries(), buffer)
 }
 
 // Judges a call with a verdict buffer of so many bytes and a sizes buffer of so many numbers.

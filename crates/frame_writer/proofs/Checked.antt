@@ -9,7 +9,7 @@ use borrow.Author.Tests.{ltb-true, ltb-false}
 use Rattle.table.specs.Below.{any, count}
 use Rattle.table.specs.Refusal.{refusal}
 use Rattle.table.specs.Record.{field_a, field_b, functions}
-use Rattle.table.specs.Checks.{Accepted, checks, broken, unlisted, out_of_order, too_many, no_entry, absent, foreign, not_plain}
+use Rattle.table.specs.Checks.{Accepted, free_checks, order_checks, checks, above, broken, unlisted, out_of_order, too_many, no_entry, absent, foreign, not_plain, not_above}
 use Rattle.table.specs.Scan.{surplus_of}
 use Rattle.table.proofs.Booleans.{either_way}
 use Rattle.table.proofs.Laws.{function_kind}
@@ -34,6 +34,12 @@ module _ {t : List ℕ} {frame : ℕ → ℕ} {u : List ℕ} (s : FramesSet t (f
   unfolding out_of_order
   out_of_order_same zero = refl
   out_of_order_same (suc r) = rw (kind_same s (suc r), kind_same s r) refl
+
+  not_above_same : (r : ℕ) → not_above u r ≡ not_above t r
+  unfolding not_above
+  not_above_same zero = refl
+  not_above_same (suc r) = λ i.
+      eqb (kind_same s r i) 3 && eqb (kind_same s (suc r) i) 3 && not (above (a_same s (suc r) i) (b_same s (suc r) i) (a_same s r i) (b_same s r i))
 
   surplus_same : (k limit r : ℕ) → surplus_of u k limit r ≡ surplus_of t k limit r
   surplus_same k limit r = λ i. eqb (kind_same s r i) k && leb limit (count (λ m. eqb (kind_same s m i) k) r)
@@ -60,7 +66,7 @@ module _ {t : List ℕ} {frame : ℕ → ℕ} {u : List ℕ} (s : FramesSet t (f
     not_plain_same = rw (kind_same s r, a_same s r, b_same s r, node_sort_same s (field_a t r), node_sort_same s (field_b t r)) refl
 
   pub refusal_same : Accepted t → refusal checks u ≡ refusal checks t
-  unfolding checks refusal
+  unfolding checks free_checks order_checks refusal
   refusal_same ok =
       rw (records_same s, broken_same, no_entry_same)
-      (rw (fun_ext (unlisted_same ok), fun_ext out_of_order_same, fun_ext too_many_same, fun_ext absent_same, fun_ext foreign_same, fun_ext not_plain_same) refl)
+      (rw (fun_ext (unlisted_same ok), fun_ext out_of_order_same, fun_ext too_many_same, fun_ext absent_same, fun_ext foreign_same, fun_ext not_plain_same, fun_ext not_above_same) refl)

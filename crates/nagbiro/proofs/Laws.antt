@@ -6,7 +6,7 @@ use Rattle.std.specs.Prelude.{Option, None, Some}
 use native.Mathlib.Omega.{arith}
 use borrow.Author.Rules.{rules}
 use Rattle.table.specs.Refusal.{Check, Refusal, over, refusal}
-use Rattle.table.specs.Checks.{checks, Accepted}
+use Rattle.table.specs.Checks.{free_checks, order_checks, checks, Accepted}
 use Rattle.table.specs.Answer.{outcome, outcome_for}
 use Rattle.table.proofs.Refusals.{refusal_pass, refusal_here}
 use Rattle.table.specs.Result.{done, result_for}
@@ -40,7 +40,7 @@ module _ {X : Type 0} (x : X) where
           absurd (omega (arith, h.0, z))
 
 table_numbered : Numbered checks
-unfolding checks
+unfolding free_checks order_checks checks
 table_numbered = search rules
 
 choice_numbered : Numbered call_checks

@@ -1,5 +1,5 @@
-// An order of a table's edges in which sums along paths settle in few sweeps, whatever order their records stand
-// in: that of a search in depth from the functions' first nodes, and then from the others. An edge stands before those that
+// An order of a table's edges in which sums along paths settle in few sweeps, however its nodes are numbered:
+// that of a search in depth from the functions' first nodes, and then from the others. An edge stands before those that
 // were found beyond it: where no path comes back to its start, before all of them, so one sweep settles.
 // The search is a hint: nothing is promised of it, so no place needs a bound. What it writes is made sure of.
 ghost use Rattle.order.specs.Order.{Ordered};

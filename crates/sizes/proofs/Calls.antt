@@ -23,9 +23,9 @@ use Rattle.table.proofs.Booleans.{or_false, and_true_left, and_true_right}
 use Rattle.table.proofs.Refusals.{refusal_pass, refusal_here, whole_here, whole_pass, whole_passes, each_passes, refusal_over_none}
 use Rattle.rules.specs.Choice.{unmerged, unguarded, ChoiceFor}
 use Rattle.rules.specs.Rules.{entries, LeastSizes}
-use Rattle.sizes.specs.Call.{Call, choice_of, wrong_length, outside, sizes_row, sizes_result, choice_checks, call_checks, call_result}
-use Rattle.table.specs.Result.{done, refused, result_for, result_of, table_result}
-use Rattle.table.proofs.Results.{told_refused, none_refused, table_accepted, checked_result}
+use Rattle.sizes.specs.Call.{Call, choice_of, wrong_length, outside, choice_checks, call_checks, call_result}
+use Rattle.table.specs.Result.{done, refused, result_for, result_of, table_result, room_row, room_result}
+use Rattle.table.proofs.Results.{last_row, room_fits, told_refused, none_refused, table_accepted, checked_result}
 use Rattle.sizes.specs.Known.{KnownFor}
 use Rattle.sizes.specs.Trials.{known_program, FoundFor}
 use Rattle.sync.specs.declared.Known.{Known}
@@ -37,22 +37,6 @@ use Rattle.solver.specs.declared.solution.Solution.{Solution}
 pub looked_result : (t : List ℕ) (r : CodeResult Known Refused) → outcome_of (counts_found r) ≡ outcome t → result_of r ≡ table_result t
 looked_result t (Ok known) e = checked_result t (Ok known.program.of) e
 looked_result t (Err r) e = checked_result t (Err r) e
-
--- the row of the sizes buffer: it decides where it is the last one left, and what nothing refuses fits
-module _ {X : Type 0} (needed buffer : X → ℕ) (x : X) (cs : List (Check X)) where
-  pub last_row : refusal cs x ≡ refusal (sizes_row needed buffer ∷ []) x → (found : ℕ) → found ≡ needed x → sizes_result found (buffer x) ≡ result_for (refusal cs x)
-  unfolding refusal result_for
-  last_row past found e = rw (past, e) (go (ltb (buffer x) (needed x)))
-    where
-      go : (b : Bool) → cond b (refused 11 (needed x)) done ≡ result_for (option_or (option_map (refused_at 11) (cond b (Some (needed x)) None)) None)
-      go true = refl
-      go false = refl
-
-  pub sizes_fit : Memᴰ (sizes_row needed buffer) cs → refusal cs x ≡ None → needed x ≤ buffer x
-  sizes_fit m e = ltb-false _ _ (whole_passes x 11 (λ y. ltb (buffer y) (needed y)) needed cs e m)
-
-pub long_enough : (needed buffer : ℕ) → needed ≤ buffer → done ≡ sizes_result needed buffer
-long_enough needed buffer h = rw (le-ltb buffer needed h)
 
 -- ---- the checks of a call with a choice
 
@@ -80,7 +64,7 @@ module _ (x : Call) (a : Accepted x.table) where
     unfolding choice_checks
     past_bytes e = past_length h ∙ refusal_pass x _ _ (sym f ∙ e)
 
-    pub sizes_decide : found ≡ None → (needed : ℕ) → needed ≡ entries (program_of x.table) → sizes_result needed x.buffer ≡ call_result x
+    pub sizes_decide : found ≡ None → (needed : ℕ) → needed ≡ entries (program_of x.table) → room_result needed x.buffer ≡ call_result x
     unfolding call_result choice_checks
     sizes_decide l = last_row _ _ x call_checks (past_bytes l)
 
@@ -145,7 +129,7 @@ done_valid x e =
         others = λ m h s. other_byte x.table m (choice_of x.choice m) (none_outside x c m h) s;
         spawns = λ m h s. spawn_byte x.table m (choice_of x.choice m) (none_outside x c m h) s;
       };
-      fits = sizes_fit (λ (y : Call). entries (program_of y.table)) (λ (y : Call). y.buffer) x choice_checks (search in_List depth 40) c;
+      fits = room_fits (λ (y : Call). entries (program_of y.table)) (λ (y : Call). y.buffer) x choice_checks (search in_List depth 40) c;
     }
 
 -- what is found and written is what the call leaves

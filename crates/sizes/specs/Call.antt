@@ -4,7 +4,7 @@ use Rattle.table.specs.Refusal.{Check, of_whole, of_each, over, refusal}
 use Rattle.table.specs.Record.{spawn}
 use Rattle.table.specs.Checks.{checks}
 use Rattle.table.specs.Program.{program_of}
-use Rattle.table.specs.Result.{Result, done, refused, result_for, result_of}
+use Rattle.table.specs.Result.{Result, done, refused, result_for, result_of, room_row}
 use Rattle.rules.specs.Choice.{unmerged, unguarded}
 use Rattle.rules.specs.Rules.{entries, LeastSizes}
 use Rattle.size.specs.Numbers.{Written}
@@ -36,25 +36,17 @@ outside t n byte =
     ((eqb ((program_of t).sort n) spawn && leb unmerged byte && leb byte unguarded)
     || (not (eqb ((program_of t).sort n) spawn) && eqb byte 0))
 
--- 11: "sizes buffer too short", in any call that writes sizes. Place: "length needed".
-abbrev pub sizes_row : {X : Type 0} → (needed buffer : X → ℕ) → Check X
-sizes_row needed buffer = record { number = 11; place = of_whole (λ x. ltb (buffer x) (needed x)) needed }
-
 -- "in 9 a wrong length goes before a wrong byte", "the earliest [..] node"
 unfoldable pub choice_checks : List (Check Call)
 choice_checks =
     record { number = 9; place = of_whole wrong_length (λ x. (program_of x.table).nodes) }
     ∷ record { number = 9; place = of_each (λ x n. outside x.table n (choice_of x.choice n)) (λ x. (program_of x.table).nodes) }
-    ∷ sizes_row (λ (x : Call). entries (program_of x.table)) (λ (x : Call). x.buffer)
+    ∷ room_row (λ (x : Call). entries (program_of x.table)) (λ (x : Call). x.buffer)
     ∷ []
 
 -- "The lowest number wins": those on the table itself first.
 unfoldable pub call_checks : List (Check Call)
 call_checks = map (over (λ (x : Call). x.table)) checks ++ choice_checks
-
--- where no check applies but perhaps that of the sizes buffer
-abbrev pub sizes_result : (needed buffer : ℕ) → Result
-sizes_result needed buffer = cond (ltb buffer needed) (refused 11 needed) done
 
 -- what the call comes to
 unfoldable pub call_result : Call → Result

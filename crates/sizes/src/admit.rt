@@ -2,13 +2,13 @@
 ghost use Rattle.std.specs.Prelude.{◌≡◌, ◌<◌, IfOk};
 ghost use Rattle.table.specs.Below.{earliest};
 ghost use Rattle.table.specs.Result.{result_of, table_result};
-ghost use Rattle.sizes.specs.Call.{call, choice_of, outside, call_result, sizes_result};
+ghost use Rattle.sizes.specs.Call.{call, choice_of, outside, call_result};
 ghost use Rattle.sizes.specs.Known.{KnownFor};
 
 use program::Program;
 use rules::targets::chosen;
 use sync::{Known, synchronising};
-use table::refusal::{Cause, Refused};
+use table::refusal::{Cause, Refused, judge_room};
 
 // Whether a byte is outside the list of node n: 1 to 3 of a spawn, and 0 of any other node. A choice is handed in as bytes, of any value.
 pub fn is_outside(program: &Program<'_>, n: usize, byte: u8) -> bool
@@ -24,19 +24,6 @@ fn first_outside(program: &Program<'_>, choice: &[u8]) -> Option<usize>
     ensures { result ≡ earliest (λ n. outside program.now.table.now n (choice_of choice.now n)) program.now.of.nodes }
 {
     (0..program.of.nodes).find(|n| is_outside(program, *n, chosen(choice, *n)))
-}
-
-// Judges the length of the sizes buffer, in any call that writes so many numbers into it. It is the last check of each.
-pub fn judge_sizes(needed: usize, buffer: usize) -> Result<(), Refused>
-    ensures { result_of result ≡ sizes_result needed buffer }
-{
-    if buffer < needed {
-        return Err(Refused {
-            cause: Cause::Sizes,
-            place: needed,
-        });
-    }
-    Ok(())
 }
 
 // Judges the choice and the length of the sizes buffer.
@@ -56,7 +43,7 @@ fn judge(program: &Program<'_>, choice: &[u8], buffer: usize) -> Result<(), Refu
             place,
         });
     }
-    judge_sizes(program.entries(), buffer)
+    judge_room(program.entries(), buffer)
 }
 
 // Looks at a table: what it is refused for, or what is known of it.

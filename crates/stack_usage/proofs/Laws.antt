@@ -21,7 +21,7 @@ use Rattle.usage_line.specs.Bytes.{is_name}
 use Rattle.usage_line.specs.Line.{count_in, is_usage}
 use Rattle.usage_line.specs.Lines.{pieces, lines, line, piece_at, is_line}
 use Rattle.stack_usage.specs.Call.{FramesCall, wrong_name, wrong_usage, about, not_once, usage_checks, frames_checks, frames_result, counted}
-use Rattle.stack_usage.proofs.Passing.{some_counted, only_one}
+use Rattle.table.proofs.Below.{some_counted, only_one_counted}
 
 -- line j of the report is the only one about function f, and its count is what is counted for the function
 pub record OnlyLine (names report : List ℕ) (f j : ℕ) : Type 0 where
@@ -81,7 +81,7 @@ module _ (x : FramesCall) (e : refusal usage_checks x ≡ None) where
         record {
           within = found.0;
           about_it = found.1;
-          only = λ i l p. only_one test (lines x.report) (once f h) i first.0 l found.0 p found.1;
+          only = λ i l p. only_one_counted test (lines x.report) (once f h) i first.0 l found.0 p found.1;
           count_is = rw first.1 refl;
         },
       )

@@ -1,7 +1,6 @@
 -- How the promises come about.
 pub mod Laws
 mod Calls
-mod Passing
 mod Mentions
 mod Listing
 mod Noting

@@ -13,7 +13,7 @@ use Rattle.stack_usage.specs.Call.{about, not_once, counted}
 use Rattle.stack_usage.specs.declared.mention.Mention.{Mention}
 use Rattle.stack_usage.specs.declared.mention.Mention.TheVariants.{Never, Once, More}
 use Rattle.stack_usage.specs.Mention.{more, Says}
-use Rattle.stack_usage.proofs.Passing.{stays, uncounted}
+use Rattle.table.proofs.Below.{earliest_stays, uncounted}
 
 module _ (names report : List ℕ) (f : ℕ) where
   pub says_none : Says names report f 0 Never
@@ -22,7 +22,7 @@ module _ (names report : List ℕ) (f : ℕ) where
   -- a line that is about another
   pub says_same : (j : ℕ) (m : Mention) → about names report f j ≡ false → Says names report f j m → Says names report f (j + 1) m
   says_same j Never e s = omega (arith, s, rw e at (count_more (about names report f) j))
-  says_same j (Once c) e s = (omega (arith, s.0, rw e at (count_more (about names report f) j)), s.1, stays (about names report f) j s.2, s.3)
+  says_same j (Once c) e s = (omega (arith, s.0, rw e at (count_more (about names report f) j)), s.1, earliest_stays (about names report f) j s.2, s.3)
   says_same j More e s = omega (arith, s, rw e at (count_more (about names report f) j))
 
   -- a line about it

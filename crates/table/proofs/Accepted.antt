@@ -1,27 +1,33 @@
--- The program of an accepted table is well_formed: what each check sees to, one check after the other.
-use Prim.Native.Nat.{ℕ, ◌+◌, ◌<◌, ◌≤◌}
+-- The program of a table in free order is well formed: what each of checks 1 to 8 sees to, one check after the other.
+use Prim.Native.Nat.{ℕ, ◌+◌, ◌*◌, ◌%◌, ◌<◌, ◌≤◌}
 use mathlib.Core.Path.{◌≡◌, sym, ◌∙◌, subst}
 use mathlib.Core.List.{List}
 use mathlib.Core.Bool.{true, false, not, ◌&&◌, ◌||◌}
 use mathlib.Core.Logic.{⊎_elim}
 use native.Mathlib.Omega.{arith}
 use lib.Dec.{eqb, leb}
+use lib.ListN.{length}
 use borrow.Author.Tests.{eqb-true, leb-true, leb-false, not-false}
 use Rattle.table.specs.Below.{any}
 use Rattle.table.specs.Record.{records, sort_of, field_a, field_b, field_c, is_function, is_node, is_edge, functions, nodes, edges, node_record, edge_record, node_sort, node_owner, node_target, edge_from, edge_to, is_entry, plain, sync, has_target}
-use Rattle.table.specs.Checks.{Accepted, unlisted, too_many, no_entry, absent, foreign, not_plain}
+use Rattle.table.specs.Checks.{FreeOrder, broken, unlisted, too_many, no_entry, absent, foreign, not_plain}
 use Rattle.table.specs.Program.{program_of}
 use Rattle.table.specs.WellFormed.{WellFormed, PlainOwn, Together}
 use Rattle.table.specs.Scan.{surplus_of}
-use Rattle.table.proofs.Booleans.{either_way, or_true_right, neither, none_of_three, both, and_true_left, and_true_right, and_false_right, or_false}
+use Rattle.table.proofs.Booleans.{either_way, or_true_right, neither, none_of_three, both, and_true_left, and_true_right, and_false_right, all_three, or_false}
 use Rattle.table.proofs.Below.{count_limit, any_which}
 use Rattle.table.proofs.Rows
 use Rattle.table.proofs.Fields.{entry_read, first_read, exit_read, nodes_read, sort_read, owner_read, target_read, edge_which}
 
-module _ (t : List ℕ) (ok : Accepted t) where
+module _ (t : List ℕ) (ok : FreeOrder t) where
   -- the bytes are its records: functions, then nodes, then edges
   pub records_are : functions t + nodes t + edges t ≡ records t
   records_are = Rows.records_are t ok
+
+  -- check 1: there is nothing besides
+  pub whole : length t ≡ records t * 8
+  unfolding broken
+  whole = omega (arith, eqb-true _ _ (not-false (eqb (length t % 8) 0) (Rows.not_broken t ok)))
 
   within_limits : (r : ℕ) → r < records t → (surplus_of t 1 64 r ≡ false) × (surplus_of t 2 512 r ≡ false) × (surplus_of t 3 1024 r ≡ false)
   unfolding too_many
@@ -102,7 +108,7 @@ module _ (t : List ℕ) (ok : Accepted t) where
   exit_own f h = rw (exit_read t f h) (plain_own f (field_b t f) (ends_exist f h).1 (ends_plain f h).1 (ends_own f h).1)
 
   -- checks 2 and 6 of a node: its sort is listed, its owner exists, and so does the target of a call or spawn; else that is 0
-  node_listed : (n : ℕ) → n < nodes t → (leb (node_sort t n) sync ≡ true) × ((has_target (node_sort t n) || eqb (node_target t n) 0) ≡ true)
+  node_listed : (n : ℕ) → n < nodes t → (leb (node_sort t n) sync ≡ true) × ((has_target (node_sort t n) || eqb (node_target t n) 0) ≡ true) × (eqb (field_c t (node_record t n)) 0 ≡ true)
   unfolding unlisted
   node_listed n h =
       let r = node_record t n in
@@ -110,8 +116,25 @@ module _ (t : List ℕ) (ok : Accepted t) where
       let b = has_target (sort_of t r) || eqb (field_b t r) 0 in
       let c = eqb (field_c t r) 0 in
       let e : not (s && b && c || false) ≡ false = rw (Rows.node_kind_lem t ok n h) at (Rows.all_listed t ok r (node_record_lem n h)) in
-      let w = and_true_left (s && b) c (sym (or_false (s && b && c)) ∙ not-false _ e) in
-      (and_true_left s b w, and_true_right s b w)
+      all_three s b c (sym (or_false (s && b && c)) ∙ not-false _ e)
+
+  pub node_rest : (n : ℕ) → n < nodes t → field_c t (node_record t n) ≡ 0
+  node_rest n h = eqb-true _ _ (node_listed n h).2
+
+  -- and of a function and an edge
+  pub entry_listed : (f : ℕ) → f < functions t → sort_of t f ≤ 1
+  unfolding unlisted
+  entry_listed f h =
+      let s = leb (sort_of t f) 1 in
+      let e : not (s || false || false) ≡ false = rw (Rows.function_kind_lem t ok f h) at (Rows.all_listed t ok f (function_record f h)) in
+      leb-true _ _ (sym (or_false s) ∙ sym (or_false (s || false)) ∙ not-false _ e)
+
+  edge_listed : (e : ℕ) → e < edges t → (eqb (sort_of t (edge_record t e)) 0 && eqb (field_c t (edge_record t e)) 0) ≡ true
+  unfolding unlisted
+  edge_listed e h = not-false _ (rw (Rows.edge_kind_lem t ok e h) at (Rows.all_listed t ok (edge_record t e) (edge_record_lem e h)))
+
+  pub edge_rest : (e : ℕ) → e < edges t → (sort_of t (edge_record t e) ≡ 0) × (field_c t (edge_record t e) ≡ 0)
+  edge_rest e h = let w = edge_listed e h in (eqb-true _ _ (and_true_left _ (eqb (field_c t (edge_record t e)) 0) w), eqb-true _ _ (and_true_right (eqb (sort_of t (edge_record t e)) 0) _ w))
 
   sort_listed : (n : ℕ) → n < nodes t → node_sort t n ≤ sync
   sort_listed n h = leb-true _ _ (node_listed n h).0

@@ -126,6 +126,10 @@ any_told f n = go (earliest f n) refl
     go None e = rw (any_none f n (earliest_passed f n e)) refl
     go (Some r) e = let w = earliest_found f n r e in rw (any_some f n r w.0 w.1) refl
 
+-- the first that passes stays the first
+pub earliest_stays : (test : ℕ → Bool) {i : ℕ} (j : ℕ) → earliest test j ≡ Some i → earliest test (j + 1) ≡ Some i
+earliest_stays test {i} j e = earliest_some test (j + 1) i (omega (arith, (earliest_found test j i e).0)) (earliest_before test j i e) (earliest_found test j i e).1
+
 -- a second search, below where the first stopped: the first of either
 pub earliest_either : (f g : ℕ → Bool) (n : ℕ) → option_or (earliest g (unwrap_or (earliest f n) n)) (earliest f n) ≡ earliest (λ k. f k || g k) n
 earliest_either f g n = go (earliest f n) refl
@@ -243,6 +247,53 @@ count_strict f g (suc n) x l h p q =
     (λ (e : x ≡ n). subst (λ (m : ℕ). count f m + cond (f m) 1 0 < count g m + cond (g m) 1 0) e (rw (p, q) (omega (arith, count_mono f g x h))))
     (λ (l : x < n). omega (arith, count_strict f g n x l h p q, one_mono (f n) (g n) (h n)))
     (last_or_before x n l)
+
+-- none passes where none is counted
+pub uncounted : (test : ℕ → Bool) (j : ℕ) → count test j ≡ 0 → (k : ℕ) → k < j → test k ≡ false
+unfolding count
+uncounted test zero e k h = absurd (omega arith)
+uncounted test (suc j) e k h =
+    ⊎_elim
+    (λ (i : k ≡ j). ap test i ∙ none_here (test j) (omega (arith, e)))
+    (λ (l : k < j). uncounted test j (omega (arith, e)) k l)
+    (last_or_before k j h)
+  where
+    none_here : (b : Bool) → ◌≡◌ {A = ℕ} (cond b 1 0) 0 → b ≡ false
+    none_here true q = absurd (omega (arith, q))
+    none_here false q = refl
+
+module _ (test : ℕ → Bool) where
+  pub none_counted : (n : ℕ) → ((k : ℕ) → k < n → test k ≡ false) → count test n ≡ 0
+  unfolding count
+  none_counted zero h = refl
+  none_counted (suc n) h = rw (none_counted n (λ k l. h k (omega arith)), h n (omega arith)) refl
+
+  pub some_counted : (n : ℕ) → count test n ≡ 1 → (j : ℕ) × (earliest test n ≡ Some j)
+  some_counted n e = go (earliest test n) refl
+    where
+      go : (o : Option ℕ) → earliest test n ≡ o → (j : ℕ) × (earliest test n ≡ Some j)
+      go (Some j) q = (j, q)
+      go None q = absurd (omega (arith, e, none_counted n (earliest_passed test n q)))
+
+  -- the last number is the one, or one before it is
+  pub only_one_counted : (n : ℕ) → count test n ≡ 1 → (i j : ℕ) → i < n → j < n → test i ≡ true → test j ≡ true → i ≡ j
+  unfolding count
+  only_one_counted zero e i j h k p q = absurd (omega arith)
+  only_one_counted (suc n) e i j h k p q = go (test n) refl (only_one_counted n)
+    where
+      go : (b : Bool) → test n ≡ b → (count test n ≡ 1 → (i j : ℕ) → i < n → j < n → test i ≡ true → test j ≡ true → i ≡ j) → i ≡ j
+      go true t before =
+          let none : count test n ≡ 0 = omega (arith, rw t at e) in
+          let last : (m : ℕ) → m < suc n → test m ≡ true → m ≡ n =
+          λ m l s. ⊎_elim (λ (r : m ≡ n). r) (λ (r : m < n). not_both (test m) s (uncounted test n none m r)) (last_or_before m n l)
+          in
+          last i h p ∙ sym (last j k q)
+      go false t before =
+          let one : count test n ≡ 1 = omega (arith, rw t at e) in
+          let below : (m : ℕ) → m < suc n → test m ≡ true → m < n =
+          λ m l s. ⊎_elim (λ (r : m ≡ n). not_both (test m) s (ap test r ∙ t)) (λ (r : m < n). r) (last_or_before m n l)
+          in
+          before one i j (below i h p) (below j k q) p q
 
 -- there are no more functions than records
 pub functions_fit : (t : List ℕ) → functions t ≤ records t

@@ -3,7 +3,8 @@ use mathlib.Core.Path.{◌≡◌, refl, sym, ap, ◌∙◌}
 use mathlib.Core.Bool.{Bool, true, false, cond}
 use mathlib.Core.List.Memᴰ
 use mathlib.Core.List.{List, [], ◌∷◌, ◌++◌, map, Memᴰ}
-use Rattle.std.specs.Prelude.{Option, None, Some}
+use Rattle.std.specs.Prelude.{Option, None, Some, option_map}
+use Rattle.std.specs.Option.{option_or}
 use Rattle.table.proofs.Booleans.{some_not_none}
 use mathlib.Core.Logic.{⊎_elim}
 use Prim.Native.Nat.{ℕ, ◌<◌}
@@ -51,21 +52,43 @@ module _ {X : Type 0} (x : X) (n : ℕ) (condition : X → Bool) (place : X → 
 pub each_passes : {X : Type 0} (x : X) (n : ℕ) (condition : X → ℕ → Bool) (count : X → ℕ) (cs : List (Check X)) → refusal cs x ≡ None → Memᴰ (record { number = n; place = of_each condition count }) cs → (r : ℕ) → r < count x → condition x r ≡ false
 each_passes x n condition count cs e m = earliest_passed (condition x) (count x) (refusal_none x cs e _ m)
 
--- rows about a part come before others: what they say of the part decides, and if they say nothing, the others do
-module _ {X Y : Type 0} (part : X → Y) (ds : List (Check X)) (x : X) where
-  pub refusal_over_none : (cs : List (Check Y)) → refusal cs (part x) ≡ None → refusal (map (over part) cs ++ ds) x ≡ refusal ds x
-  refusal_over_none [] e = refl
-  refusal_over_none (c ∷ cs) e = go (c.place (part x)) refl (λ r. refusal_over_none cs r)
+-- rows before others: what they say decides, and if they say nothing, the others do
+module _ {X : Type 0} (ds : List (Check X)) (x : X) where
+  pub refusal_before_none : (cs : List (Check X)) → refusal cs x ≡ None → refusal (cs ++ ds) x ≡ refusal ds x
+  refusal_before_none [] e = refl
+  refusal_before_none (c ∷ cs) e = go (c.place x) refl (refusal_before_none cs)
     where
-      go : (o : Option ℕ) → c.place (part x) ≡ o → (refusal cs (part x) ≡ None → refusal (map (over part) cs ++ ds) x ≡ refusal ds x) → refusal (map (over part) (c ∷ cs) ++ ds) x ≡ refusal ds x
-      go None h later = refusal_pass x (over part c) (map (over part) cs ++ ds) h ∙ later (sym (refusal_pass (part x) c cs h) ∙ e)
-      go (Some p) h later = absurd (some_not_none (refused_at c.number p) (sym (refusal_here (part x) c cs h) ∙ e))
+      go : (o : Option ℕ) → c.place x ≡ o → (refusal cs x ≡ None → refusal (cs ++ ds) x ≡ refusal ds x) → refusal (c ∷ cs ++ ds) x ≡ refusal ds x
+      go None h later = refusal_pass x c (cs ++ ds) h ∙ later (sym (refusal_pass x c cs h) ∙ e)
+      go (Some p) h later = absurd (some_not_none (refused_at c.number p) (sym (refusal_here x c cs h) ∙ e))
 
-  pub refusal_over_some : (cs : List (Check Y)) {r : Refusal} → refusal cs (part x) ≡ Some r → refusal (map (over part) cs ++ ds) x ≡ Some r
+  pub refusal_before_some : (cs : List (Check X)) {r : Refusal} → refusal cs x ≡ Some r → refusal (cs ++ ds) x ≡ Some r
   unfolding refusal
-  refusal_over_some [] {r} e = absurd (some_not_none r (sym e))
-  refusal_over_some (c ∷ cs) {r} e = go (c.place (part x)) refl (λ q. refusal_over_some cs q)
+  refusal_before_some [] {r} e = absurd (some_not_none r (sym e))
+  refusal_before_some (c ∷ cs) {r} e = go (c.place x) refl (refusal_before_some cs)
     where
-      go : (o : Option ℕ) → c.place (part x) ≡ o → (refusal cs (part x) ≡ Some r → refusal (map (over part) cs ++ ds) x ≡ Some r) → refusal (map (over part) (c ∷ cs) ++ ds) x ≡ Some r
-      go None h later = refusal_pass x (over part c) (map (over part) cs ++ ds) h ∙ later (sym (refusal_pass (part x) c cs h) ∙ e)
-      go (Some p) h later = refusal_here x (over part c) (map (over part) cs ++ ds) h ∙ sym (refusal_here (part x) c cs h) ∙ e
+      go : (o : Option ℕ) → c.place x ≡ o → (refusal cs x ≡ Some r → refusal (cs ++ ds) x ≡ Some r) → refusal (c ∷ cs ++ ds) x ≡ Some r
+      go None h later = refusal_pass x c (cs ++ ds) h ∙ later (sym (refusal_pass x c cs h) ∙ e)
+      go (Some p) h later = refusal_here x c (cs ++ ds) h ∙ sym (refusal_here x c cs h) ∙ e
+
+  -- so where all say nothing, those before say nothing
+  pub none_before : (cs : List (Check X)) → refusal (cs ++ ds) x ≡ None → refusal cs x ≡ None
+  none_before cs e = go (refusal cs x) refl
+    where
+      go : (o : Option Refusal) → refusal cs x ≡ o → refusal cs x ≡ None
+      go None h = h
+      go (Some r) h = absurd (some_not_none r (sym (refusal_before_some cs h) ∙ e))
+
+-- rows about a part say what they say of the part
+pub refusal_over : {X Y : Type 0} (part : X → Y) (x : X) (cs : List (Check Y)) → refusal (map (over part) cs) x ≡ refusal cs (part x)
+unfolding refusal
+refusal_over part x [] = refl
+refusal_over part x (c ∷ cs) = ap (option_or (option_map (refused_at c.number) (c.place (part x)))) (refusal_over part x cs)
+
+-- and if these come before others
+module _ {X Y : Type 0} (part : X → Y) (ds : List (Check X)) (x : X) (cs : List (Check Y)) where
+  pub refusal_over_none : refusal cs (part x) ≡ None → refusal (map (over part) cs ++ ds) x ≡ refusal ds x
+  refusal_over_none e = refusal_before_none ds x (map (over part) cs) (refusal_over part x cs ∙ e)
+
+  pub refusal_over_some : {r : Refusal} → refusal cs (part x) ≡ Some r → refusal (map (over part) cs ++ ds) x ≡ Some r
+  refusal_over_some e = refusal_before_some ds x (map (over part) cs) (refusal_over part x cs ∙ e)

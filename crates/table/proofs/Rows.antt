@@ -1,4 +1,4 @@
--- What is known of the records of an accepted table: no check applies, and functions stand first, then nodes, then edges.
+-- What is known of the records of a table in free order: none of checks 1 to 8 applies, and functions stand first, then nodes, then edges.
 use Prim.Native.Nat.{ℕ, suc, ◌+◌, ◌<◌, ◌≤◌}
 use mathlib.Core.Path.{◌≡◌, refl, sym, ap, ◌∙◌, subst}
 use mathlib.Core.List.{List, Memᴰ}
@@ -10,50 +10,50 @@ use borrow.Author.Tests.{eqb-true, ltb-true, ltb-false, lt-ltb, le-ltb}
 use Rattle.table.specs.Below.{count}
 use Rattle.table.specs.Refusal.{of_whole}
 use Rattle.table.specs.Record.{records, kind_of, functions, nodes, edges}
-use Rattle.table.specs.Checks.{checks, Accepted, of_record, broken, unlisted, out_of_order, too_many, no_entry, absent, foreign, not_plain}
+use Rattle.table.specs.Checks.{free_checks, FreeOrder, of_record, broken, unlisted, out_of_order, too_many, no_entry, absent, foreign, not_plain}
 use Rattle.table.proofs.Below.{count_same, count_sum, count_all, count_below}
 use Rattle.table.proofs.Refusals.{each_passes, whole_passes}
 
 ruleset in_List = (Memᴰ.head, Memᴰ.tail)
 
-module _ (t : List ℕ) (ok : Accepted t) where
+module _ (t : List ℕ) (ok : FreeOrder t) where
   -- a row of the list does not apply; where it stands in the list does not matter
-  record_passed : (n : ℕ) (test : List ℕ → ℕ → Bool) → Memᴰ (record { number = n; place = of_record test }) checks → (r : ℕ) → r < records t → test t r ≡ false
-  record_passed n test m = each_passes t n test records checks ok m
+  record_passed : (n : ℕ) (test : List ℕ → ℕ → Bool) → Memᴰ (record { number = n; place = of_record test }) free_checks → (r : ℕ) → r < records t → test t r ≡ false
+  record_passed n test m = each_passes t n test records free_checks ok m
 
-  table_passed : (n : ℕ) (test : List ℕ → Bool) (place : List ℕ → ℕ) → Memᴰ (record { number = n; place = of_whole test place }) checks → test t ≡ false
-  table_passed n test place m = whole_passes t n test place checks ok m
+  table_passed : (n : ℕ) (test : List ℕ → Bool) (place : List ℕ → ℕ) → Memᴰ (record { number = n; place = of_whole test place }) free_checks → test t ≡ false
+  table_passed n test place m = whole_passes t n test place free_checks ok m
 
   pub not_broken : broken t ≡ false
-  unfolding checks
+  unfolding free_checks
   not_broken = table_passed 1 broken records (search in_List depth 40)
 
   pub all_listed : (r : ℕ) → r < records t → unlisted t r ≡ false
-  unfolding checks
+  unfolding free_checks
   all_listed = record_passed 2 unlisted (search in_List depth 40)
 
   pub all_in_order : (r : ℕ) → r < records t → out_of_order t r ≡ false
-  unfolding checks
+  unfolding free_checks
   all_in_order = record_passed 3 out_of_order (search in_List depth 40)
 
   pub none_too_many : (r : ℕ) → r < records t → too_many t r ≡ false
-  unfolding checks
+  unfolding free_checks
   none_too_many = record_passed 4 too_many (search in_List depth 40)
 
   pub has_entry : no_entry t ≡ false
-  unfolding checks
+  unfolding free_checks
   has_entry = table_passed 5 no_entry (λ t. 0) (search in_List depth 40)
 
   pub none_absent : (r : ℕ) → r < records t → absent t r ≡ false
-  unfolding checks
+  unfolding free_checks
   none_absent = record_passed 6 absent (search in_List depth 40)
 
   pub none_foreign : (r : ℕ) → r < records t → foreign t r ≡ false
-  unfolding checks
+  unfolding free_checks
   none_foreign = record_passed 7 foreign (search in_List depth 40)
 
   pub all_plain : (r : ℕ) → r < records t → not_plain t r ≡ false
-  unfolding checks
+  unfolding free_checks
   all_plain = record_passed 8 not_plain (search in_List depth 40)
 
   -- ---- the order of kinds

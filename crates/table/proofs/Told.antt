@@ -13,11 +13,11 @@ use Rattle.table.specs.Below.{earliest}
 use Rattle.table.specs.Scan.{sought, place_for}
 use Rattle.table.specs.Refusal.{Check, refusal}
 use Rattle.table.specs.Record.{records, is_entry}
-use Rattle.table.specs.Checks.{checks, broken, no_entry}
-use Rattle.table.specs.Answer.{outcome, outcome_for, accepted, refused, number_of, CountsOf}
+use Rattle.table.specs.Checks.{free_checks, broken, no_entry}
+use Rattle.table.specs.Answer.{free_outcome, outcome_for, accepted, refused, number_of, CountsOf}
 use Rattle.table.specs.declared.Counts.{Counts}
 use Rattle.table.specs.declared.refusal.Cause.{Cause}
-use Rattle.table.specs.declared.refusal.Cause.TheVariants.{Length, Unlisted, OutOfOrder, TooMany, NoEntry, Absent, Foreign, NotPlain, Choice, Verdicts, Sizes, Number, Line, Mentions}
+use Rattle.table.specs.declared.refusal.Cause.TheVariants.{Length, Unlisted, OutOfOrder, TooMany, NoEntry, Absent, Foreign, NotPlain, Choice, Verdicts, Room, Number, Line, Mentions, NotAbove}
 use Rattle.table.proofs.Below.{earliest_none, any_told}
 use Rattle.table.proofs.Booleans.{not_not}
 use Rattle.table.proofs.Refusals.{refusal_pass, refusal_here}
@@ -48,23 +48,24 @@ record_told OutOfOrder t l m e = refl
 record_told Absent t l m e = refl
 record_told Foreign t l m e = refl
 record_told NotPlain t l m e = refl
+record_told NotAbove t l m e = refl
 record_told Choice t l m e = earliest_none _ _ (λ k h. refl)
 record_told Verdicts t l m e = earliest_none _ _ (λ k h. refl)
-record_told Sizes t l m e = earliest_none _ _ (λ k h. refl)
+record_told Room t l m e = earliest_none _ _ (λ k h. refl)
 record_told Number t l m e = earliest_none _ _ (λ k h. refl)
 record_told Line t l m e = earliest_none _ _ (λ k h. refl)
 record_told Mentions t l m e = earliest_none _ _ (λ k h. refl)
 
 -- the first i of the rows do not apply to t, so that those after them decide
 pub record Past (t : List ℕ) (rows : List Cause) (i : ℕ) : Type 0 where
-  pub decided_by_rest : refusal checks t ≡ refusal (map row (drop i rows)) t
+  pub decided_by_rest : refusal free_checks t ≡ refusal (map row (drop i rows)) t
 
 pub none_yet : (t : List ℕ) → Past t (Length ∷ Unlisted ∷ OutOfOrder ∷ TooMany ∷ NoEntry ∷ Absent ∷ Foreign ∷ NotPlain ∷ []) 0
-unfolding checks
+unfolding free_checks
 none_yet t = record { decided_by_rest = refl }
 
 module _ (t : List ℕ) (rows : List Cause) (i : ℕ) (d : Cause) (past : Past t rows i) (h : i < length rows) where
-  at_row : refusal checks t ≡ refusal (row (get_or rows i d) ∷ map row (drop (i + 1) rows)) t
+  at_row : refusal free_checks t ≡ refusal (row (get_or rows i d) ∷ map row (drop (i + 1) rows)) t
   at_row =
       let e : drop i rows ≡ get_or rows i d ∷ drop (i + 1) rows = rw add-one (drop-cons rows i d h) in
       past.decided_by_rest ∙ ap (λ (rest : List Cause). refusal (map row rest) t) e
@@ -72,16 +73,16 @@ module _ (t : List ℕ) (rows : List Cause) (i : ℕ) (d : Cause) (past : Past t
   pub passed : None ≡ place_for (get_or rows i d) t → Past t rows (i + 1)
   passed told = record { decided_by_rest = at_row ∙ refusal_pass _ _ _ (sym told) }
 
-  pub stopped : (p : ℕ) → Some p ≡ place_for (get_or rows i d) t → refused (number_of (get_or rows i d)) p ≡ outcome t
-  unfolding outcome outcome_for
+  pub stopped : (p : ℕ) → Some p ≡ place_for (get_or rows i d) t → refused (number_of (get_or rows i d)) p ≡ free_outcome t
+  unfolding free_outcome outcome_for
   stopped p told = rw (at_row, refusal_here t (row (get_or rows i d)) (map row (drop (i + 1) rows)) (sym told)) refl
 
 refusal_nil : (t : List ℕ) → refusal {X = List ℕ} [] t ≡ None
 unfolding refusal
 refusal_nil t = refl
 
-pub all_passed : {t : List ℕ} {of : Counts} {rows : List Cause} {i : ℕ} → Past t rows i → length rows ≤ i → CountsOf t of → accepted of.functions of.nodes of.edges ≡ outcome t
-unfolding outcome outcome_for
+pub all_passed : {t : List ℕ} {of : Counts} {rows : List Cause} {i : ℕ} → Past t rows i → length rows ≤ i → CountsOf t of → accepted of.functions of.nodes of.edges ≡ free_outcome t
+unfolding free_outcome outcome_for
 all_passed {t} {of} {rows} {i} past h counts =
-    let none : refusal checks t ≡ None = past.decided_by_rest ∙ ap (λ (rest : List Cause). refusal (map row rest) t) (drop_all i rows h) ∙ refusal_nil t in
+    let none : refusal free_checks t ≡ None = past.decided_by_rest ∙ ap (λ (rest : List Cause). refusal (map row rest) t) (drop_all i rows h) ∙ refusal_nil t in
     rw (none, counts.functions_are, counts.nodes_are, counts.edges_are) refl

@@ -2,12 +2,12 @@
 use Rattle.std.specs.Prelude.{ℕ, ◌≡◌, List, Option, None, Some, Result, Ok, Err}
 use Rattle.table.specs.Refusal.{Refusal, refusal}
 use Rattle.table.specs.Record.{functions, nodes, edges}
-use Rattle.table.specs.Checks.{checks}
+use Rattle.table.specs.Checks.{checks, free_checks}
 use Rattle.table.specs.Checks.{Accepted as IsAccepted}
 use Rattle.table.specs.declared.Counts.{Counts}
 use Rattle.table.specs.declared.refusal.Refused.{Refused}
 use Rattle.table.specs.declared.refusal.Cause.{Cause}
-use Rattle.table.specs.declared.refusal.Cause.TheVariants.{Length, Unlisted, OutOfOrder, TooMany, NoEntry, Absent, Foreign, NotPlain, Choice, Verdicts, Sizes, Number, Line, Mentions}
+use Rattle.table.specs.declared.refusal.Cause.TheVariants.{Length, Unlisted, OutOfOrder, TooMany, NoEntry, Absent, Foreign, NotPlain, Choice, Verdicts, Room, Number, Line, Mentions, NotAbove}
 
 -- accepted, with how many functions, nodes and edges there are; or refused, with the number and the place of "Refused tables"
 pub data Outcome : Type 0 where
@@ -23,6 +23,11 @@ unfoldable pub outcome : List ℕ → Outcome
 unfolding outcome_for
 outcome t = outcome_for t (refusal checks t)
 
+-- and what it says where the order of edges is free
+unfoldable pub free_outcome : List ℕ → Outcome
+unfolding outcome_for
+free_outcome t = outcome_for t (refusal free_checks t)
+
 -- the number under which "Refused tables" has each cause
 abbrev pub number_of : Cause → ℕ
 number_of Length = 1
@@ -35,10 +40,11 @@ number_of Foreign = 7
 number_of NotPlain = 8
 number_of Choice = 9
 number_of Verdicts = 10
-number_of Sizes = 11
+number_of Room = 11
 number_of Number = 12
 number_of Line = 13
 number_of Mentions = 14
+number_of NotAbove = 15
 
 -- what each case of the answer says
 abbrev pub outcome_of : Result Counts Refused → Outcome

@@ -1,6 +1,6 @@
 -- Document 01, "Refused tables": the checks on the table itself. Each condition is a definition of its own, and `checks` lists the rows.
 -- A condition on a record makes sense for every record of every table, whatever the rows before it say.
-use Rattle.std.specs.Prelude.{ℕ, zero, suc, ◌%◌, ◌≡◌, List, [], ◌∷◌, Bool, false, not, ◌&&◌, ◌||◌, eqb, leb, ltb, length, Option, None}
+use Rattle.std.specs.Prelude.{ℕ, zero, suc, ◌%◌, ◌≡◌, List, [], ◌∷◌, ◌++◌, Bool, false, not, ◌&&◌, ◌||◌, eqb, leb, ltb, length, Option, None}
 use Rattle.table.specs.Below.{any, count}
 use Rattle.table.specs.Refusal.{Check, of_whole, of_each, refusal}
 use Rattle.table.specs.Record.{records, kind_of, sort_of, field_a, field_b, field_c, is_function, is_node, is_edge, functions, nodes, node_owner, node_sort, is_entry, plain, sync, has_target}
@@ -52,12 +52,22 @@ foreign t r =
 unfoldable pub not_plain : List ℕ → ℕ → Bool
 not_plain t r = is_function t r && not (eqb (node_sort t (field_a t r)) plain && eqb (node_sort t (field_b t r)) plain)
 
+-- "Edges must now ascend by from-node and then to-node, each once": the edge from a to b is above that from c to d
+abbrev pub above : (a b c d : ℕ) → Bool
+above a b c d = ltb c a || (eqb c a && ltb d b)
+
+-- 15: "an edge not above the one before it" (document 02)
+unfoldable pub not_above : List ℕ → ℕ → Bool
+not_above t zero = false
+not_above t (suc r) = is_edge t r && is_edge t (suc r) && not (above (field_a t (suc r)) (field_b t (suc r)) (field_a t r) (field_b t r))
+
 -- a row about a record: "the record", the earliest one
 abbrev pub of_record : (List ℕ → ℕ → Bool) → List ℕ → Option ℕ
 of_record condition = of_each condition records
 
-unfoldable pub checks : List (Check (List ℕ))
-checks =
+-- 1 to 8: those that leave the order of edges free
+unfoldable pub free_checks : List (Check (List ℕ))
+free_checks =
     record { number = 1; place = of_whole broken records }
     ∷ record { number = 2; place = of_record unlisted }
     ∷ record { number = 3; place = of_record out_of_order }
@@ -68,6 +78,17 @@ checks =
     ∷ record { number = 8; place = of_record not_plain }
     ∷ []
 
--- "A table is accepted if none of the checks on the table itself [..] applies to it."
+-- "15, an edge not above the one before it, place the record, after 8 and before 9 to 14"
+unfoldable pub order_checks : List (Check (List ℕ))
+order_checks = record { number = 15; place = of_record not_above } ∷ []
+
+unfoldable pub checks : List (Check (List ℕ))
+checks = free_checks ++ order_checks
+
+-- "a table in the old free order": one that would be accepted if its edges might stand in any order and repeat
+abbrev pub FreeOrder : List ℕ → Type 0
+FreeOrder t = refusal free_checks t ≡ None
+
+-- "A table is accepted if none of the checks on the table itself [..] applies to it." That is one in free order, to which 15 does not apply either.
 abbrev pub Accepted : List ℕ → Type 0
 Accepted t = refusal checks t ≡ None

@@ -47,7 +47,7 @@ functions t = count (is_function t) (records t)
 unfoldable pub nodes : List ℕ → ℕ
 nodes t = count (is_node t) (records t)
 
--- Edge records, repeated ones too: "at most [..] 1,024 edges" is of these. That an edge repeats matters to no other result.
+-- Edge records, repeated ones too: "at most [..] 1,024 edges" is of these. Behind that check 15 lets no edge through twice.
 unfoldable pub edges : List ℕ → ℕ
 edges t = count (is_edge t) (records t)
 

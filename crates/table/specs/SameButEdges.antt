@@ -1,4 +1,5 @@
--- "Edges may stand in any order and may repeat; neither matters to any result": two tables that differ in nothing else.
+-- "Edges may stand in any order and may repeat; neither matters to any result": two tables that differ in nothing else. Document 02 lets one of them be
+-- accepted (check 15) and has a writer that makes it from any other.
 -- Their programs are equal (`same_program` in proofs/Laws.antt), so whatever is stated over programs is the same for both.
 use Rattle.std.specs.Prelude.{ℕ, ◌+◌, ◌*◌, ◌<◌, ◌≡◌, List, take}
 use Rattle.table.specs.Record.{functions, nodes, edges, edge_from, edge_to}

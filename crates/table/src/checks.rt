@@ -1,7 +1,7 @@
 // The tests of document 01's "Refused tables" that look at one record.
 ghost use Rattle.std.specs.Prelude.{◌≡◌, ◌<◌};
-ghost use Rattle.table.specs.Record.{records, node_owner, node_sort, is_entry, has_target};
-ghost use Rattle.table.specs.Checks.{unlisted, out_of_order, absent, foreign, not_plain};
+ghost use Rattle.table.specs.Record.{records, field_a, field_b, node_owner, node_sort, is_entry, has_target};
+ghost use Rattle.table.specs.Checks.{unlisted, out_of_order, absent, foreign, not_plain, above, not_above};
 ghost use Rattle.table.specs.Below.{earliest};
 ghost use Rattle.table.specs.Answer.{CountsOf};
 ghost use Rattle.table.specs.Scan.{sought, place_for};
@@ -42,6 +42,23 @@ fn is_out_of_order(t: &[u8], r: usize) -> bool
     ensures { result ≡ out_of_order t.now r }
 {
     r != 0 && kind(t, r) < kind(t, r - 1)
+}
+
+// The edge in record r is above that in record q.
+fn is_above(t: &[u8], r: usize, q: usize) -> bool
+    ensures { result ≡ above (field_a t.now r) (field_b t.now r) (field_a t.now q) (field_b t.now q) }
+{
+    let a = field_a(t, r);
+    let c = field_a(t, q);
+    (c < a) | ((c == a) & (field_b(t, q) < field_b(t, r)))
+}
+
+// 15: an edge not above the one before it.
+#[tactic(auto, using(crate::proofs::Scanning::first_above, crate::proofs::Scanning::later_above))]
+fn is_not_above(t: &[u8], r: usize) -> bool
+    ensures { result ≡ not_above t.now r }
+{
+    r != 0 && is_of(t, r, Kind::Edge) && is_of(t, r - 1, Kind::Edge) && !is_above(t, r, r - 1)
 }
 
 // 5 wants one of these. Sort 1 is an entry here, and of a node it is a call.
@@ -128,6 +145,7 @@ impl Counted<'_> {
             Cause::Absent => self.is_absent(r),
             Cause::Foreign => self.is_foreign(r),
             Cause::NotPlain => self.is_not_plain(r),
+            Cause::NotAbove => is_not_above(self.t, r),
             _ => false,
         }
     }

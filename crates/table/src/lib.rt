@@ -8,7 +8,7 @@ pub mod refusal;
 mod scan;
 
 ghost use Rattle.std.specs.Prelude.{◌≡◌};
-ghost use Rattle.table.specs.Answer.{outcome, outcome_of};
+ghost use Rattle.table.specs.Answer.{outcome, free_outcome, outcome_of};
 
 use checks::Counted;
 use refusal::{Cause, Refused};
@@ -22,7 +22,7 @@ pub struct Counts {
     pub edges: usize,
 }
 
-// The rows of "Refused tables" about the table itself, in their order.
+// The rows of "Refused tables" about the table itself, in their order, but for that of the order of edges.
 const ROWS: [Cause; 8] = [
     Cause::Length,
     Cause::Unlisted,
@@ -34,9 +34,9 @@ const ROWS: [Cause; 8] = [
     Cause::NotPlain,
 ];
 
-// Checks a table of any length: the first check of document 01 that applies, lowest number first, at its earliest place.
-pub fn check(t: &[u8]) -> Result<Counts, Refused>
-    ensures { outcome_of result ≡ outcome t.now }
+// Checks a table of any length whose edges may stand in any order: the first check of document 01 that applies, lowest number first, at its earliest place.
+pub fn check_free(t: &[u8]) -> Result<Counts, Refused>
+    ensures { outcome_of result ≡ free_outcome t.now }
 {
     let of = tally(t);
     let counted = Counted { t, of };
@@ -46,4 +46,17 @@ pub fn check(t: &[u8]) -> Result<Counts, Refused>
         }
     }
     Ok(of)
+}
+
+// Checks a table of any length, the order of its edges too.
+pub fn check(t: &[u8]) -> Result<Counts, Refused>
+    ensures { outcome_of result ≡ outcome t.now }
+{
+    let of = check_free(t)?;
+    let counted = Counted { t, of };
+    let cause = Cause::NotAbove;
+    match counted.place_of(cause) {
+        Some(place) => Err(Refused { cause, place }),
+        None => Ok(of),
+    }
 }

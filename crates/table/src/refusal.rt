@@ -1,10 +1,12 @@
 // What a call is refused for.
 ghost use Rattle.std.specs.Prelude.{◌≡◌, ◌++◌, Some, codes, decimal};
 ghost use Rattle.table.specs.Answer.{number_of};
+ghost use Rattle.table.specs.Result.{result_of, room_result};
 
 use std::fmt;
 
-// The rows of "Refused tables" in their order: of the table itself down to `NotPlain`, and then of what is handed in beside it.
+// The rows of "Refused tables" by their numbers: of the table itself down to `NotPlain`, then of what is handed in beside it, and then of the order of
+// edges, which is the table's too.
 #[derive(Clone, Copy, Debug)]
 pub enum Cause {
     Length,
@@ -17,10 +19,11 @@ pub enum Cause {
     NotPlain,
     Choice,
     Verdicts,
-    Sizes,
+    Room,
     Number,
     Line,
     Mentions,
+    NotAbove,
 }
 
 // Its number is what a program in C is told.
@@ -39,10 +42,11 @@ impl From<Cause> for u32 {
             Cause::NotPlain => 8,
             Cause::Choice => 9,
             Cause::Verdicts => 10,
-            Cause::Sizes => 11,
+            Cause::Room => 11,
             Cause::Number => 12,
             Cause::Line => 13,
             Cause::Mentions => 14,
+            Cause::NotAbove => 15,
         }
     }
 }
@@ -61,4 +65,17 @@ impl fmt::Display for Refused {
     fn fmt<W: fmt::Write>(&self, f: &mut fmt::Formatter<W>) -> fmt::Result {
         write!(f, "refused {} at {}", u32::from(self.cause), self.place)
     }
+}
+
+// Judges the length of a lent buffer, in any call that writes so much into one. It is the last check of each.
+pub fn judge_room(needed: usize, room: usize) -> Result<(), Refused>
+    ensures { result_of result ≡ room_result needed room }
+{
+    if room < needed {
+        return Err(Refused {
+            cause: Cause::Room,
+            place: needed,
+        });
+    }
+    Ok(())
 }

@@ -13,10 +13,9 @@ use Rattle.table.specs.Below.{earliest}
 use Rattle.table.specs.Refusal.{refusal}
 use Rattle.table.specs.Checks.{checks, Accepted}
 use Rattle.table.proofs.Refusals.{refusal_pass, refusal_here, whole_here, whole_pass, whole_passes, each_passes, refusal_over_none}
-use Rattle.table.specs.Result.{done, refused}
-use Rattle.sizes.specs.Call.{sizes_result}
+use Rattle.table.specs.Result.{done, refused, room_result}
 use Rattle.table.proofs.Results.{told_refused, none_refused, table_accepted}
-use Rattle.sizes.proofs.Calls.{last_row, sizes_fit}
+use Rattle.table.proofs.Results.{last_row, room_fits}
 use Rattle.table.proofs.Booleans.{or_false_right}
 use Rattle.what_if.specs.Fits.{Fits}
 use Rattle.what_if.specs.Call.{ListCall, wrong_number, wanted, wrong_list, outside_list, needed, list_checks, what_if_checks, what_if_result}
@@ -55,7 +54,7 @@ module _ (x : ListCall) (a : Accepted x.table) where
         unfolding list_checks
         past_bytes e = past_list ∙ refusal_pass x _ _ (sym f ∙ e)
 
-        pub sizes_decide : found ≡ None → (room : ℕ) → room ≡ needed x → sizes_result room x.buffer ≡ what_if_result x
+        pub sizes_decide : found ≡ None → (room : ℕ) → room ≡ needed x → room_result room x.buffer ≡ what_if_result x
         unfolding what_if_result list_checks
         sizes_decide l = last_row _ _ x what_if_checks (past_bytes l)
 
@@ -91,5 +90,5 @@ done_valid x e =
       number_is = whole_passes x 12 wrong_number (λ (y : ListCall). y.number) list_checks c (search in_List depth 40);
       long = eqb-true _ _ (not-false _ (whole_passes x 9 wrong_list wanted list_checks c (search in_List depth 40)));
       none_outside = each_passes x 9 (λ (y : ListCall). outside_list y.table y.choices) (λ (y : ListCall). length y.choices) list_checks c (search in_List depth 40);
-      fits = sizes_fit needed (λ (y : ListCall). y.buffer) x list_checks (search in_List depth 40) c;
+      fits = room_fits needed (λ (y : ListCall). y.buffer) x list_checks (search in_List depth 40) c;
     }

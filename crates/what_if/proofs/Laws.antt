@@ -19,10 +19,11 @@ use Rattle.table.proofs.Booleans.{same_test, not_both}
 use Rattle.table.proofs.Below.{earliest_none, earliest_some, earliest_found, earliest_passed, earliest_before}
 use Rattle.size.specs.Numbers.{at}
 use Rattle.sync.specs.Words.{bit}
-use Rattle.table.specs.Result.{Result, done, refused}
-use Rattle.sizes.specs.Call.{Call, call, choice_of, outside, sizes_result, call_result, LeavesFor}
+use Rattle.table.specs.Result.{Result, done, refused, room_result}
+use Rattle.sizes.specs.Call.{Call, call, choice_of, outside, call_result, LeavesFor}
 use Rattle.table.proofs.Results.{is_done}
-use Rattle.sizes.proofs.Calls.{long_enough, byte_refused, sizes_decide}
+use Rattle.table.proofs.Results.{long_enough}
+use Rattle.sizes.proofs.Calls.{byte_refused, sizes_decide}
 use Rattle.sizes.proofs.Laws.{sizes_unique}
 use Rattle.safety.specs.Call.{Answers as SafetyAnswers}
 use Rattle.what_if.specs.Call.{ListCall, nodes_of, entries_of, part, wrong_number, wanted, outside_list, needed, what_if_result, Safeties, Answers, LeavesSets}
@@ -97,7 +98,7 @@ le_or p at h = go (dec_lt at p)
     go (no n) = omega (arith, n)
 
 -- where a call comes to a refusal under 9, the byte that it looks for is there: else it would come to another refusal or to none
-byte_told : (o : Option ℕ) {r : Result} (m needed buffer : ℕ) → refused 9 m ≡ r → ((q : ℕ) → o ≡ Some q → refused 9 q ≡ r) → (o ≡ None → sizes_result needed buffer ≡ r) → o ≡ Some m
+byte_told : (o : Option ℕ) {r : Result} (m needed buffer : ℕ) → refused 9 m ≡ r → ((q : ℕ) → o ≡ Some q → refused 9 q ≡ r) → (o ≡ None → room_result needed buffer ≡ r) → o ≡ Some m
 byte_told (Some q) m needed buffer e found none = ap Some (ap place_in (found q refl ∙ sym e))
 byte_told None m needed buffer e found none = absurd (other (ltb buffer needed) (e ∙ sym (none refl)))
   where

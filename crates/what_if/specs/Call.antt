@@ -8,8 +8,8 @@ use Rattle.table.specs.Answer.{number_of}
 use Rattle.table.specs.declared.refusal.Refused.{Refused}
 use Rattle.sync.specs.Words.{bit}
 use Rattle.rules.specs.Rules.{entries}
-use Rattle.table.specs.Result.{Result, done, refused, result_for, result_of}
-use Rattle.sizes.specs.Call.{choice_of, outside, sizes_row, LeavesFor}
+use Rattle.table.specs.Result.{Result, done, refused, result_for, result_of, room_row}
+use Rattle.sizes.specs.Call.{choice_of, outside, LeavesFor}
 use Rattle.safety.specs.Safety.{Safe}
 
 -- "They hand in a number of choices and then the choices, one after another"
@@ -59,7 +59,7 @@ list_checks =
     record { number = 12; place = of_whole wrong_number (λ x. x.number) }
     ∷ record { number = 9; place = of_whole wrong_list wanted }
     ∷ record { number = 9; place = of_each (λ x. outside_list x.table x.choices) (λ x. length x.choices) }
-    ∷ sizes_row needed (λ (x : ListCall). x.buffer)
+    ∷ room_row needed (λ (x : ListCall). x.buffer)
     ∷ []
 
 -- "[..] join document 01's table where it places them": after those on the table itself

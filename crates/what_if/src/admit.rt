@@ -7,8 +7,8 @@ ghost use Rattle.what_if.specs.Call.{list_call, outside_list, what_if_result};
 
 use program::Program;
 use sizes::Known;
-use sizes::admit::{is_outside, judge_sizes, look};
-use table::refusal::{Cause, Refused};
+use sizes::admit::{is_outside, look};
+use table::refusal::{Cause, Refused, judge_room};
 
 // Whether byte p of the choices, which stand one after another with a byte for each node, is outside the list of its node.
 #[tactic(auto, unfolding(crate::specs::Call::outside_list))]
@@ -51,7 +51,7 @@ fn judge(program: &Program<'_>, number: usize, choices: &[u8], buffer: usize) ->
         });
     }
     let needed = program.entries() * number;
-    judge_sizes(needed, buffer)
+    judge_room(needed, buffer)
 }
 
 // Judges a call with a list of choices and a sizes buffer of so many numbers.

@@ -5,6 +5,7 @@ pub mod call_order;
 pub mod choice;
 pub mod frames;
 pub mod listing;
+pub mod ordered;
 pub mod random;
 pub mod safety;
 pub mod sizes;

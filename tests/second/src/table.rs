@@ -1,4 +1,4 @@
-//! "The task table" and rows 1 to 8 of "Refused tables".
+//! "The task table", rows 1 to 8 of "Refused tables", and row 15 of document 02.
 
 /// The number of a refusal and its place.
 pub type Refusal = (u32, usize);
@@ -29,7 +29,7 @@ pub struct Node {
     pub target: usize,
 }
 
-/// A table that none of the refusals 1 to 8 applies to. An edge is a pair of nodes.
+/// A table that none of the refusals 1 to 8 applies to. An edge is a pair of nodes, and they stand as in the table.
 #[derive(Clone, Debug)]
 pub struct Program {
     pub functions: Vec<Function>,
@@ -184,8 +184,21 @@ fn refusal_8(records: &[Record]) -> Option<usize> {
     None
 }
 
-/// "The lowest number wins, then the earliest record or node."
-pub fn check(bytes: &[u8]) -> Result<Program, Refusal> {
+/// 15: "an edge not above the one before it", place "the record". "Edges must now ascend by from-node and then to-node,
+/// each once."
+fn refusal_15(records: &[Record]) -> Option<usize> {
+    for place in 1..records.len() {
+        let (before, r) = (&records[place - 1], &records[place]);
+        if before.kind == EDGE && r.kind == EDGE && (r.a, r.b) <= (before.a, before.b) {
+            return Some(place);
+        }
+    }
+    None
+}
+
+/// A table "in the old free order": its edges "may stand in any order and may repeat". "The lowest number wins, then the
+/// earliest record or node."
+pub fn check_free(bytes: &[u8]) -> Result<Program, Refusal> {
     if let Some(place) = refusal_1(bytes) {
         return Err((1, place));
     }
@@ -212,4 +225,13 @@ pub fn check(bytes: &[u8]) -> Result<Program, Refusal> {
         }
     }
     Ok(program)
+}
+
+/// A table in the order that edges must have now: 15 comes "after 8".
+pub fn check(bytes: &[u8]) -> Result<Program, Refusal> {
+    let program = check_free(bytes)?;
+    match refusal_15(&records(bytes)) {
+        Some(place) => Err((15, place)),
+        None => Ok(program),
+    }
 }

@@ -72,6 +72,10 @@ fn one_by_one() {
     assert_eq!(with(&[(0, [1, 1, 1, 2, 4])]), Err((8, 0)));
     assert_eq!(with(&[(0, [1, 1, 0, 1, 4])]), Err((8, 0)));
     assert_eq!(with(&[(5, [2, 3, 1, 0, 0])]), Err((8, 1)));
+    // 15, of document 02
+    assert_eq!(with(&[(7, [3, 0, 0, 1, 0])]), Err((15, 7)));
+    assert_eq!(with(&[(7, [3, 0, 0, 0, 0])]), Err((15, 7)));
+    assert_eq!(with(&[(6, [3, 0, 2, 0, 0])]), Err((15, 7)));
 }
 
 #[test]
@@ -87,7 +91,7 @@ fn one_too_many() {
             }
             bytes
         };
-        // 64 functions with one node are refused, but not by 4.
+        // 64 functions with one node are refused, and so is an edge repeated, but not by 4.
         assert!(!matches!(check(&full(allowed)), Err((4, _))));
         assert_eq!(check(&full(allowed + 1)).unwrap_err(), (4, before + allowed));
         assert_eq!(check(&full(allowed + 9)).unwrap_err(), (4, before + allowed));
@@ -97,7 +101,8 @@ fn one_too_many() {
 /// "The lowest number wins, then the earliest record or node."
 #[test]
 fn lowest_number_first() {
-    // 8 at 0 and 7 at 7; 7 at 1 and 6 at 7; 6 at 0 and 5; 5 and 3 at 7; 3 at 3 and 2 at 7.
+    // 15 at 7 and 8 at 0; 8 at 0 and 7 at 7; 7 at 1 and 6 at 7; 6 at 0 and 5; 5 and 3 at 7; 3 at 3 and 2 at 7.
+    assert_eq!(with(&[(0, [1, 1, 1, 2, 4]), (7, [3, 0, 0, 1, 0])]), Err((8, 0)));
     assert_eq!(with(&[(0, [1, 1, 1, 2, 4]), (7, [3, 0, 1, 3, 0])]), Err((7, 7)));
     assert_eq!(with(&[(1, [1, 0, 0, 3, 4]), (7, [3, 0, 1, 9, 0])]), Err((6, 7)));
     assert_eq!(with(&[(0, [1, 0, 9, 2, 4])]), Err((5, 0)));

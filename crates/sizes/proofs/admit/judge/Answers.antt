@@ -22,4 +22,4 @@ returns c =
     let a = c.args in
     let p = a.program.now in
     let e = p.nodes_are in
-    c.judge_sizes.ensures ∙ sizes_decide (call p.table.now a.choice.now a.buffer) p.ready.accepted_is (c.if-choice-nodes.false ∙ e) (rw e at c.first_outside.ensures) c.in_default.is c.entries.result (omega (arith, c.entries.ensures, p.functions_are))
+    c.judge_room.ensures ∙ sizes_decide (call p.table.now a.choice.now a.buffer) p.ready.accepted_is (c.if-choice-nodes.false ∙ e) (rw e at c.first_outside.ensures) c.in_default.is c.entries.result (omega (arith, c.entries.ensures, p.functions_are))

@@ -39,4 +39,4 @@ unfolding wrong_number
 returns c =
     let a = c.args in
     let p = a.program.now in
-    c.judge_sizes.ensures ∙ sizes_decide (list_call p.table.now a.number a.choices.now a.buffer) p.ready.accepted_is c.if-wrong.false (c.if-choices-wanted.false ∙ bytes p a.number) c.first_outside.ensures c.in_default.is _ (numbers p a.number c.entries.ensures)
+    c.judge_room.ensures ∙ sizes_decide (list_call p.table.now a.number a.choices.now a.buffer) p.ready.accepted_is c.if-wrong.false (c.if-choices-wanted.false ∙ bytes p a.number) c.first_outside.ensures c.in_default.is _ (numbers p a.number c.entries.ensures)
