@@ -1,0 +1,4 @@
+-- What is believed.
+pub mod Bytes
+-- What only helps proofs.
+pub mod Pairs
