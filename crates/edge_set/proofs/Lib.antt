@@ -1,0 +1,2 @@
+-- How the promise of `next` comes about.
+mod Passing

@@ -1,0 +1,2 @@
+-- What is believed.
+pub mod From
