@@ -32,6 +32,9 @@ extern "C" {
 #define NAGBIRO_NODES 512
 #define NAGBIRO_EDGES 1024
 
+/* A buffer of this many bytes is long enough for every table. */
+#define NAGBIRO_TABLE (8 * (NAGBIRO_FUNCTIONS + NAGBIRO_NODES + NAGBIRO_EDGES))
+
 /* A sizes buffer of this many numbers is long enough for one choice of every table. */
 #define NAGBIRO_SIZES (4 * (NAGBIRO_FUNCTIONS + NAGBIRO_NODES))
 
@@ -51,14 +54,38 @@ extern "C" {
 #define NAGBIRO_UNGUARDED 3
 
 /*
+ * Every call but nagbiro_ordered asks of a table that its edges ascend by the node that they lead
+ * from and then by the node that they lead to, each once, and refuses it under 15 if they do not.
+ * The place is the record of the first edge that is not above the one before it. 15 is given after 1
+ * to 8, and before 9 to 14.
+ */
+
+/*
  * Checks a table.
  * Reads: table.
  * Returns 0 for an accepted table, and writes its numbers of functions, nodes and edges to a, b
- * and c. Else returns the refusal, 1 to 8, and writes its place to a; b and c are kept.
+ * and c. Else returns the refusal, 1 to 8 or 15, and writes its place to a; b and c are kept.
  * Needs: NAGBIRO_CHECK_STACK bytes of stack.
  */
 #define NAGBIRO_CHECK_STACK (16 * 1024)
 uint32_t nagbiro_check(const uint8_t *table, size_t table_length, size_t *a, size_t *b, size_t *c);
+
+/*
+ * Puts the edges of a table in order: writes its functions and nodes as they are, and behind them
+ * its edges, ascending by the node that they lead from and then by the node that they lead to, each
+ * once. The edges of table may stand in any order, and repeat. What is written is accepted, and has
+ * the same sizes for every choice; a table that is in order already is written as it is.
+ * Reads: table.
+ * Returns 0, and writes the ordered table to the front of out, and its length to written: 8 bytes for
+ * each function, each node and each different edge. Bytes of out past it, and place, are kept. The
+ * ordered table is never longer than table.
+ * Else returns the refusal, 1 to 8 or 11, and writes its place to place; out and written are kept. The
+ * place of 11 is the length that is needed.
+ * Needs: NAGBIRO_ORDERED_STACK bytes of stack.
+ */
+#define NAGBIRO_ORDERED_STACK (48 * 1024)
+uint32_t nagbiro_ordered(const uint8_t *table, size_t table_length,
+                         uint8_t *out, size_t out_length, size_t *written, size_t *place);
 
 /*
  * Writes the byte counts of a compiler's stack-usage report into the frames of a table.
@@ -70,7 +97,7 @@ uint32_t nagbiro_check(const uint8_t *table, size_t table_length, size_t *a, siz
  * report whose name is not listed are passed over, but have to be of this form too.
  * Returns 0, and writes the count of each function to its frame, two bytes of table. No other byte
  * of table is written; place is kept.
- * Else returns the refusal, 1 to 8, 13 or 14, and writes its place to place; table is kept. 13 is
+ * Else returns the refusal, 1 to 8 or 13 to 15, and writes its place to place; table is kept. 13 is
  * given for a line that is not of its form, a count above 65,535, and a line too many or too few in
  * names. Its place is the first such line, names before report, counted from 0: the number of
  * functions for a line too many, how many lines there are for one that is missing, and for a line of
@@ -87,7 +114,7 @@ uint32_t nagbiro_frames(uint8_t *table, size_t table_length,
  * Finds the synchronising nodes of a table: node n is bit n % 64, lowest first, of word n / 64.
  * Reads: table.
  * Returns 0, and writes the set's eight words to words: as many as there is room for, and never
- * more than eight. Words past them and place are kept. Else returns the refusal, 1 to 8, and
+ * more than eight. Words past them and place are kept. Else returns the refusal, 1 to 8 or 15, and
  * writes its place to place; words is kept.
  * Needs: NAGBIRO_SYNCHRONISING_STACK bytes of stack.
  */
@@ -104,7 +131,7 @@ uint32_t nagbiro_synchronising(const uint8_t *table, size_t table_length,
  * Reads: table.
  * Returns 0, and writes the numbers of the functions in that order to order, one byte for each: as
  * many as there is room for, and never more than there are functions. Bytes past them and place
- * are kept. Else returns the refusal, 1 to 8, and writes its place to place; order is kept.
+ * are kept. Else returns the refusal, 1 to 8 or 15, and writes its place to place; order is kept.
  * Needs: NAGBIRO_CALL_ORDER_STACK bytes of stack.
  */
 #define NAGBIRO_CALL_ORDER_STACK (16 * 1024)
@@ -117,7 +144,7 @@ uint32_t nagbiro_call_order(const uint8_t *table, size_t table_length,
  * Reads: table; choice, one byte for each node.
  * Returns 0, writes 1 to safe for a safe choice and 0 for an unsafe one, and in both cases the
  * sizes to sizes. Numbers past the 4 * (functions + nodes) that are needed, and place, are kept.
- * Else returns the refusal, 1 to 9 or 11, and writes its place to place; sizes and safe are kept.
+ * Else returns the refusal, 1 to 9, 11 or 15, and writes its place to place; sizes and safe are kept.
  * Needs: NAGBIRO_ONE_CHOICE_STACK bytes of stack.
  */
 #define NAGBIRO_ONE_CHOICE_STACK (176 * 1024)
@@ -133,7 +160,7 @@ uint32_t nagbiro_one_choice(const uint8_t *table, size_t table_length,
  * and 0 for an unsafe one, and the bits from count on are 0. In both cases it writes the sizes of
  * choice i to sizes, from 4 * (functions + nodes) * i on. Numbers past the last set of sizes, and
  * place, are kept.
- * Else returns the refusal, 1 to 9, 11 or 12, and writes its place to place; sizes and safe are
+ * Else returns the refusal, 1 to 9, 11, 12 or 15, and writes its place to place; sizes and safe are
  * kept. 12 is looked at before 9 and 11, and its place is count.
  * Needs: NAGBIRO_WHAT_IF_STACK bytes of stack.
  */
@@ -147,7 +174,7 @@ uint32_t nagbiro_what_if(const uint8_t *table, size_t table_length,
  * Reads: table.
  * Returns 0, and writes the choice to verdicts, one byte for each node, and its sizes to sizes,
  * as for one choice. What stands in either past them, and place, is kept.
- * Else returns the refusal, 1 to 8, 10 or 11, and writes its place to place; verdicts and sizes
+ * Else returns the refusal, 1 to 8, 10, 11 or 15, and writes its place to place; verdicts and sizes
  * are kept. The place of 10 and 11 is the length that is needed.
  * Needs: NAGBIRO_BEST_CHOICE_STACK bytes of stack.
  */

@@ -26,6 +26,17 @@ static const uint8_t table[] = {
     3, 0, 3, 0, 4, 0, 0, 0,
 };
 
+/* So many of its bytes come before the edges. Here those are as a tool may write them that knows of no order. */
+#define BEFORE_EDGES (8 * (3 + 7))
+
+static const uint8_t other_edges[] = {
+    3, 0, 3, 0, 4, 0, 0, 0,
+    3, 0, 2, 0, 3, 0, 0, 0,
+    3, 0, 1, 0, 2, 0, 0, 0,
+    3, 0, 0, 0, 1, 0, 0, 0,
+    3, 0, 2, 0, 3, 0, 0, 0,
+};
+
 static const uint8_t guarded[] = {0, 2, 0, 2, 0, 0, 0};
 
 /* Both unmerged, both guarded, and the first one unguarded alone. */
@@ -52,6 +63,8 @@ static const char dynamic_fan[] =
     "src/main.c:31:5:main\t64\tstatic\n"
     "src/tray.c:7:6:tray\t144\tstatic\n";
 
+static uint8_t unordered[BEFORE_EDGES + sizeof other_edges];
+static uint8_t in_order[NAGBIRO_TABLE];
 static uint64_t words[NAGBIRO_WORDS];
 static uint8_t order[NAGBIRO_FUNCTIONS];
 static uint8_t verdicts[NAGBIRO_NODES];
@@ -92,6 +105,22 @@ static void print_frames(const char *text)
     for (size_t f = 0; f < 3; f++)
         printf(" %d", copy[8 * f + 6] + 256 * copy[8 * f + 7]);
     printf("\n");
+}
+
+/* Puts these edges in order, with a buffer of so many bytes for the table. */
+static void print_ordered(size_t room)
+{
+    size_t written = 0, place = 0;
+    uint32_t number = nagbiro_ordered(unordered, sizeof unordered, in_order, room, &written, &place);
+
+    if (number != 0) {
+        refused(number, place);
+        return;
+    }
+    printf("ordered: %zu bytes of %zu, edges", written, sizeof unordered);
+    for (size_t at = BEFORE_EDGES; at < written; at += 8)
+        printf(" %d-%d", in_order[at + 2], in_order[at + 4]);
+    printf(", %s\n", written == sizeof table && memcmp(in_order, table, written) == 0 ? "case A" : "another table");
 }
 
 int main(void)
@@ -158,5 +187,13 @@ int main(void)
     /* Function 2 has no line; and then the first line of the report, line 3 with those of the names before it. */
     print_frames(without_tray);
     print_frames(dynamic_fan);
+
+    /* Every other call refuses these edges, for the first one that is not above the one before it. */
+    memcpy(unordered, table, BEFORE_EDGES);
+    memcpy(unordered + BEFORE_EDGES, other_edges, sizeof other_edges);
+    number = nagbiro_check(unordered, sizeof unordered, &place, &nodes, &edges);
+    refused(number, place);
+    print_ordered(sizeof in_order);
+    print_ordered(111);
     return 0;
 }

@@ -26,7 +26,7 @@ enum { PLAIN, CALL, SPAWN, SYNC };
 
 struct table {
     const char *name;
-    uint8_t bytes[8 * (NAGBIRO_FUNCTIONS + NAGBIRO_NODES + NAGBIRO_EDGES)];
+    uint8_t bytes[NAGBIRO_TABLE];
     size_t length;
     /* The choice that merges every spawn and guards none. */
     uint8_t choice[NAGBIRO_NODES];
@@ -41,7 +41,7 @@ static struct table case_a = {.name = "case A"}, full_size = {.name = "full size
 
 static uint64_t words[NAGBIRO_WORDS];
 static uint8_t order[NAGBIRO_FUNCTIONS];
-static uint8_t altered[sizeof full_size.bytes];
+static uint8_t altered[NAGBIRO_TABLE], in_order[NAGBIRO_TABLE];
 static uint8_t verdicts[NAGBIRO_NODES];
 static uint8_t choices[NAGBIRO_CHOICES * NAGBIRO_NODES];
 static uint32_t sizes[NAGBIRO_CHOICES * NAGBIRO_SIZES];
@@ -115,6 +115,17 @@ static uint32_t check(const struct table *table)
     return nagbiro_check(table->bytes, table->length, &a, &b, &c);
 }
 
+/* With the edges the other way round, so that there is something to put in order. */
+static uint32_t ordered(const struct table *table)
+{
+    size_t written = 0, place = 0, front = 8 * (table->functions + table->nodes);
+
+    memcpy(altered, table->bytes, front);
+    for (size_t at = front; at < table->length; at += 8)
+        memcpy(altered + at, table->bytes + front + table->length - 8 - at, 8);
+    return nagbiro_ordered(altered, table->length, in_order, sizeof in_order, &written, &place);
+}
+
 static uint32_t frames(const struct table *table)
 {
     size_t place = 0;
@@ -175,6 +186,7 @@ struct call {
 
 static const struct call calls[] = {
     {"nagbiro_check", NAGBIRO_CHECK_STACK, check},
+    {"nagbiro_ordered", NAGBIRO_ORDERED_STACK, ordered},
     {"nagbiro_frames", NAGBIRO_FRAMES_STACK, frames},
     {"nagbiro_synchronising", NAGBIRO_SYNCHRONISING_STACK, synchronising},
     {"nagbiro_call_order", NAGBIRO_CALL_ORDER_STACK, call_order},

@@ -15,6 +15,7 @@ use Rattle.table.proofs.Results.{told_done}
 use Rattle.choice.specs.Call.{BestCall, best_result, best_checks, buffer_checks}
 use Rattle.what_if.specs.Call.{ListCall, list_checks, what_if_checks, what_if_result}
 use Rattle.stack_usage.specs.Call.{FramesCall, usage_checks, frames_checks, frames_result}
+use Rattle.ordered_table.specs.Call.{WriterCall, room_checks, writer_checks, writer_result}
 use Rattle.nagbiro.specs.Codes.{table_result, code_of}
 
 -- no check of a list has the number 0
@@ -42,6 +43,11 @@ module _ {X : Type 0} (x : X) where
 table_numbered : Numbered checks
 unfolding free_checks order_checks checks
 table_numbered = search rules
+
+-- with the row of a buffer behind those that leave the order of edges free
+writer_numbered : Numbered writer_checks
+unfolding writer_checks room_checks free_checks
+writer_numbered = numbered_over (λ (x : WriterCall). x.table) free_checks room_checks (search rules) (search rules)
 
 choice_numbered : Numbered call_checks
 unfolding call_checks choice_checks
@@ -88,3 +94,8 @@ best_zero x e = told_done best_checks x (none_zero x best_checks buffers_numbere
 pub frames_zero : (x : FramesCall) → code_of (frames_result x) ≡ 0 → done ≡ frames_result x
 unfolding frames_result
 frames_zero x e = told_done frames_checks x (none_zero x frames_checks usage_numbered e)
+
+-- the writer
+pub ordered_zero : (x : WriterCall) → code_of (writer_result x) ≡ 0 → done ≡ writer_result x
+unfolding writer_result
+ordered_zero x e = told_done writer_checks x (none_zero x writer_checks writer_numbered e)

@@ -1,4 +1,5 @@
 -- For a caller.
 pub mod Laws
+pub mod Ordered
 -- How the promises come about.
 mod Telling

@@ -10,6 +10,7 @@ use Rattle.sizes.specs.Call.{Call, choice_of, call_result}
 use Rattle.table.specs.Result.{refused as call-refused}
 use Rattle.safety.specs.Safety.{Safe}
 use Rattle.what_if.specs.Call.{ListCall, what_if_result, Safeties}
+use Rattle.ordered_table.specs.Call.{WriterCall, length_written, writer_result}
 
 -- a, b and c after a check: the numbers of functions, nodes and edges; or the place, and b and c as they were
 abbrev pub Counted : Outcome → (old_b old_c a b c : ℕ) → Type 0
@@ -49,3 +50,11 @@ JudgesListFor (call-refused number place) x old new = new ≡ old
 
 abbrev pub JudgesList : ListCall → ℕ → ℕ → Type 0
 JudgesList x old new = JudgesListFor (what_if_result x) x old new
+
+-- `written` after a call of the writer: the length written, and as it was where the call is refused
+abbrev pub SaysWrittenFor : Result → WriterCall → ℕ → ℕ → Type 0
+SaysWrittenFor done x old new = new ≡ length_written x
+SaysWrittenFor (call-refused number place) x old new = new ≡ old
+
+abbrev pub SaysWritten : WriterCall → ℕ → ℕ → Type 0
+SaysWritten x old new = SaysWrittenFor (writer_result x) x old new

@@ -10,9 +10,12 @@ ghost use Rattle.nagbiro.specs.Codes.{table_result, code_of, Told};
 ghost use Rattle.what_if.specs.Call.{list_call, what_if_result, LeavesListFor};
 ghost use Rattle.stack_usage.specs.Call.{frames_call, frames_result};
 ghost use Rattle.stack_usage.specs.Call.{LeavesFor as LeavesFrames};
-ghost use Rattle.nagbiro.specs.Left.{Counted, LeavesWords, LeavesOrder, Judges, JudgesList};
+ghost use Rattle.ordered_table.specs.Call.{writer_call, writer_result};
+ghost use Rattle.ordered_table.specs.Call.{LeavesFor as LeavesOrdered};
+ghost use Rattle.nagbiro.specs.Left.{Counted, LeavesWords, LeavesOrder, Judges, JudgesList, SaysWritten};
 
 use call_order::call_order;
+use ordered_table::ordered;
 use stack_usage::frames;
 use sync::synchronising;
 use table::check;
@@ -168,4 +171,25 @@ pub extern "C" fn nagbiro_frames(
         return tell(why, place);
     }
     0
+}
+
+// The writer: writes a table whose edges stand in any order with its edges in order, each once, and says how many bytes that are.
+#[unsafe(no_mangle)]
+pub extern "C" fn nagbiro_ordered(
+    t: &[u8],
+    out: &mut [u8],
+    written: &mut usize,
+    place: &mut usize,
+) -> u32
+    ensures told { Told (writer_result (writer_call t.now (length out.old))) result place.old place.new }
+    ensures written { SaysWritten (writer_call t.now (length out.old)) written.old written.new }
+    ensures leaves { LeavesOrdered t.now out.old (writer_result (writer_call t.now (length out.old))) out.new }
+{
+    match ordered(t, out) {
+        Ok(length) => {
+            *written = length;
+            0
+        }
+        Err(refused) => tell(refused, place),
+    }
 }

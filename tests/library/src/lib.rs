@@ -11,6 +11,14 @@ extern "C" {
         report_length: usize,
         place: *mut usize,
     ) -> u32;
+    pub fn nagbiro_ordered(
+        table: *const u8,
+        table_length: usize,
+        out: *mut u8,
+        out_length: usize,
+        written: *mut usize,
+        place: *mut usize,
+    ) -> u32;
     pub fn nagbiro_synchronising(
         table: *const u8,
         table_length: usize,
