@@ -31,13 +31,15 @@ fn held(program: Words, failure: &Failure) -> Result<(), String> {
 
 /// Inputs that are no failure, and whether a text is their answer. Parts of the table have answers of their own, so a
 /// program that takes a failure for the end would print one.
-fn answers() -> [(Vec<u8>, fn(&str) -> bool); 5] {
+fn answers() -> [(Vec<u8>, fn(&str) -> bool); 6] {
     let accepted = |text: &str| !text.is_empty() && !text.starts_with("refused");
     [
         (TABLE.to_vec(), accepted),
         (TABLE[..BEFORE_EDGES].to_vec(), accepted),
         (TABLE[..13].to_vec(), |text| text == "refused 1 at 1\n"),
         (Vec::new(), |text| text == "refused 5 at 0\n"),
+        // The last edge once more
+        ([&TABLE[..], &TABLE[64..]].concat(), |text| text == "refused 15 at 9\n"),
         (vec![0; 12_801], |text| text == "too long\n"),
     ]
 }

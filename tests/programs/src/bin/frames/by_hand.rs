@@ -1,8 +1,8 @@
 //! Files for a table of two functions, and what they give, worked out by hand.
 
-use crate::ends::{fails, gives, refuses};
 use crate::reports::table;
 use crate::Frames;
+use programs::ends::{fails, gives, refuses};
 use programs::failures::TABLE;
 
 /// The program takes reports of up to so many bytes, and says so of longer ones.
@@ -61,6 +61,8 @@ fn refused() -> Vec<(Vec<u8>, String, String, u32, usize)> {
         of_table(&[0; 8], 2, 0),
         of_table(&TABLE[8..], 5, 0),
         of_table(&TABLE[..16], 6, 0),
+        // The last edge twice, and no name list: the table goes first
+        of_table(&[&TABLE[..], &TABLE[64..]].concat(), 15, 9),
         of_files("", &both, 13, 0),
         of_files("main\n", &both, 13, 1),
         of_files("main\nleaf", &both, 13, 1),

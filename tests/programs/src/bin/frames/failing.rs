@@ -1,8 +1,8 @@
 //! Files and arguments that are missing or too much, and an input or an output that fails.
 
 use crate::by_hand::{longest, MOST, SPARE};
-use crate::ends::{fails, refuses};
 use crate::Frames;
+use programs::ends::{fails, refuses};
 use programs::failures::{end, run, FAILURES, TABLE};
 use programs::input::Input;
 

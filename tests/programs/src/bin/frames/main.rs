@@ -5,10 +5,10 @@
 //! list has and some more, and of functions one of which has no fixed frame. Files for the other runs are written there.
 
 mod by_hand;
-mod ends;
 mod failing;
 mod reports;
 
+use programs::conclude;
 use programs::failures::run;
 use programs::input::Input;
 use std::path::{Path, PathBuf};
@@ -43,11 +43,5 @@ fn hold(words: &[String]) -> Result<usize, String> {
 
 fn main() {
     let words: Vec<String> = std::env::args().skip(1).collect();
-    match hold(&words) {
-        Ok(runs) => println!("{}: {runs} runs, each as it has to be", words[0]),
-        Err(text) => {
-            println!("{}: {text}", words.join(" "));
-            std::process::exit(1);
-        }
-    }
+    conclude(&words, hold(&words));
 }

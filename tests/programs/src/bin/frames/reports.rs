@@ -1,7 +1,7 @@
 //! What GCC wrote of C files, read here in another way than by the program.
 
-use crate::ends::{gives, refuses};
 use crate::Frames;
+use programs::ends::{gives, refuses};
 use std::fs;
 use std::path::Path;
 

@@ -1,4 +1,4 @@
-//! How the program has to end.
+//! How a program that writes a table has to end.
 
 use std::process::Output;
 
@@ -14,9 +14,14 @@ pub fn gives(output: &Output, table: &[u8]) -> Result<(), String> {
     is(output, table, "", 0)
 }
 
+/// It prints nothing, and says just this.
+pub fn says(output: &Output, text: &str) -> Result<(), String> {
+    is(output, b"", text, 1)
+}
+
 /// It prints nothing, and says what the refusal is.
 pub fn refuses(output: &Output, number: u32, place: usize) -> Result<(), String> {
-    is(output, b"", &format!("refused {number} at {place}\n"), 1)
+    says(output, &format!("refused {number} at {place}\n"))
 }
 
 /// It prints nothing, and says in one line what is wrong, which is no refusal.
@@ -26,14 +31,14 @@ pub fn fails(output: &Output) -> Result<(), String> {
     if !is_line || text.contains("panic") || text.starts_with("refused") {
         return Err(format!("no line that says what is wrong: {text:?}"));
     }
-    is(output, b"", &text, 1)
+    says(output, &text)
 }
 
 #[cfg(test)]
 mod tests {
     use super::*;
-    use programs::failures::run;
-    use programs::input::Input;
+    use crate::failures::run;
+    use crate::input::Input;
 
     fn end(script: &str) -> Output {
         run(&["sh", "-c", script], "", Input::Whole(&[])).expect("sh")
