@@ -5,9 +5,11 @@ use crate::files::{files, Files};
 use crate::list::{list, List};
 use crate::order::buffer;
 use crate::refused::{calls, count, field, records, refused, set_field, Records};
+use crate::stirred::stir_edges;
+use crate::written;
 use second::random::{self, record, Frames, Random, Shape, FULL};
 use second::sizes::numbers_needed;
-use second::table::{check, Node, Program, Sort};
+use second::table::{check_free, Node, Program, Sort};
 
 /// How many elements stand behind the length that a call is told. Nothing may be written there.
 pub const BEHIND: usize = 4;
@@ -27,6 +29,8 @@ pub struct Input {
     /// The buffer for the call order, as the others.
     pub order: Vec<u8>,
     pub files: Files,
+    /// The buffer for the ordered table, as the others.
+    pub out: Vec<u8>,
 }
 
 #[derive(Clone, Copy, PartialEq, Eq, Debug)]
@@ -93,6 +97,10 @@ fn limits(random: &mut Random) -> [usize; 3] {
     if random.once_in(2) {
         let kind = random.below(3);
         fill[kind] = FULL[kind] + 1;
+    }
+    // So many that there are as many edges.
+    if fill[2] > 0 {
+        fill[1] = fill[1].max(320);
     }
     fill
 }
@@ -169,24 +177,6 @@ fn swap_records(table: &mut [u8], x: usize, y: usize) {
     }
 }
 
-/// Repeats some edges and shuffles all, which changes no result.
-fn stir_edges(random: &mut Random, table: &mut Vec<u8>) {
-    let first = table.chunks_exact(8).filter(|r| r[0] != 3).count();
-    let records = table.len() / 8;
-    if first == records {
-        return;
-    }
-    for _ in 0..random.below(4) {
-        if table.len() / 8 - first < 1024 {
-            let place = 8 * (first + random.below(records - first));
-            table.extend_from_within(place..place + 8);
-        }
-    }
-    for i in (first + 1..table.len() / 8).rev() {
-        swap_records(table, i, first + random.below(i - first + 1));
-    }
-}
-
 /// One change that mostly leads to a refusal.
 fn damage(random: &mut Random, table: &mut Vec<u8>) {
     let records = table.len() / 8;
@@ -236,6 +226,15 @@ fn first_ones(random: &mut Random, functions: usize, nodes: usize) -> (Records, 
     ((0..functions).map(|f| record(1, entry, f, f, f)).collect(), first_nodes)
 }
 
+/// Edges of nodes that stand before those of a table: so many, or as many as there can be.
+fn first_edges(random: &mut Random, first_nodes: &Records, count: usize) -> Records {
+    let owners: Vec<usize> = first_nodes.iter().map(|node| field(node, 2)).collect();
+    let nodes = 0..owners.len();
+    let pairs = nodes.clone().flat_map(|from| nodes.clone().map(move |to| (from, to)));
+    let all: Vec<(usize, usize)> = pairs.filter(|&(from, to)| owners[from] == owners[to]).collect();
+    random.some(all, count).into_iter().map(|(from, to)| record(3, 0, from, to, 0)).collect()
+}
+
 /// Puts functions, nodes and edges before those of the table: nodes as many as there may be, or mostly so.
 fn push_up(random: &mut Random, table: &[u8]) -> Vec<u8> {
     let mut old = records(table);
@@ -252,10 +251,10 @@ fn push_up(random: &mut Random, table: &[u8]) -> Vec<u8> {
     let of_kind = |kind: u8| old.iter().filter(move |r| r[0] == kind).copied();
     let (mut new, first_nodes) = first_ones(random, functions, nodes);
     new.extend(of_kind(1));
-    new.extend(first_nodes);
+    new.extend(&first_nodes);
     new.extend(of_kind(2));
-    if let Some(edge) = of_kind(3).next().filter(|_| random.once_in(2)) {
-        new.extend(vec![edge; 1024 - count(&old, 3)]);
+    if random.once_in(2) {
+        new.extend(first_edges(random, &first_nodes, 1024 - count(&old, 3)));
     }
     new.extend(of_kind(3));
     new.concat()
@@ -264,7 +263,20 @@ fn push_up(random: &mut Random, table: &[u8]) -> Vec<u8> {
 fn table(random: &mut Random, kind: Kind) -> Vec<u8> {
     let shape = shape(random, kind);
     let mut table = random::table(random, shape);
-    if random.once_in(3) {
+    if kind == Kind::Last {
+        // Most often the last node is a call or a spawn.
+        for _ in 0..8 {
+            if !records(&table).iter().rfind(|r| r[0] == 2).is_some_and(calls) {
+                table = random::table(random, shape);
+            }
+        }
+    }
+    // A large one now and then, so that each check applies in the last records, too.
+    if kind == Kind::Last || kind == Kind::Refused && random.once_in(4) {
+        table = push_up(random, &table);
+    }
+    // Of the large ones, which are few, more often.
+    if random.once_in(if table.len() > 8_000 { 3 } else { 8 }) {
         stir_edges(random, &mut table);
     }
     match kind {
@@ -274,23 +286,8 @@ fn table(random: &mut Random, kind: Kind) -> Vec<u8> {
             }
             raise_frames(&mut table);
         }
-        Kind::Last => {
-            // Most often the last node is a call or a spawn.
-            for _ in 0..8 {
-                if !records(&table).iter().rfind(|r| r[0] == 2).is_some_and(calls) {
-                    table = random::table(random, shape);
-                }
-            }
-            table = push_up(random, &table);
-        }
         Kind::Limits if random.once_in(8) => table.extend(vec![0; 1 + random.below(8)]),
-        Kind::Refused => {
-            // A large one now and then, so that each check applies in the last records, too.
-            if random.once_in(4) {
-                table = push_up(random, &table);
-            }
-            table = refused(random, &table);
-        }
+        Kind::Refused => table = refused(random, &table),
         _ => {}
     }
     table
@@ -346,13 +343,15 @@ pub fn input(seed: u64, number: u64) -> Input {
     }
     let kind = kind(&mut random);
     let table = table(&mut random, kind);
-    let program = check(&table).ok();
+    // The other things are made for the table as it is in order.
+    let program = check_free(&table).ok();
     let choice = choice(&mut random, program.as_ref());
     let nodes = program.as_ref().map_or(random.below(20), |p| p.nodes.len());
     let needed = program.as_ref().map_or(random.below(80), numbers_needed);
     let words = random.below(12) + BEHIND;
     let verdicts = length(&mut random, nodes) + BEHIND;
     let sizes = length(&mut random, needed) + BEHIND;
+    let out = written::buffer(&mut random, &table);
     Input {
         kind,
         table,
@@ -365,12 +364,14 @@ pub fn input(seed: u64, number: u64) -> Input {
         list: list(&mut random, program.as_ref()),
         order: buffer(&mut random, program.as_ref()),
         files: files(&mut random, program.as_ref()),
+        out,
     }
 }
 
 #[cfg(test)]
 mod tests {
     use super::*;
+    use second::table::check;
 
     #[test]
     fn the_shares_add_up() {
@@ -378,13 +379,16 @@ mod tests {
         assert!(KINDS.iter().enumerate().all(|(i, &(kind, share))| kind as usize == i && share > 0));
     }
 
-    /// Only the kinds that ask for it give refused tables.
+    /// Only the kinds that ask for it give tables that are refused for more than their edges' order, and that is most
+    /// often the right one.
     #[test]
     fn tables_are_accepted() {
         let mut random = Random::new(9);
         for (kind, _) in KINDS {
             let tables: Vec<Vec<u8>> = (0..200).map(|_| table(&mut random, kind)).collect();
-            let refused = tables.iter().filter(|table| check(table).is_err()).count();
+            let refused = tables.iter().filter(|table| check_free(table).is_err()).count();
+            let free = tables.iter().filter(|table| matches!(check(table), Err((15, _)))).count();
+            assert!((3..120).contains(&free), "{free} {kind:?}");
             match kind {
                 Kind::Damaged | Kind::FullDamaged | Kind::Limits => assert!(refused > 50 && refused < 195, "{refused}"),
                 Kind::Refused => assert!(refused > 150, "{refused}"),
@@ -411,7 +415,8 @@ mod tests {
             }
             let edges = new.edges.len() - old.edges.len();
             assert!(old.edges.iter().zip(&new.edges[edges..]).all(|(x, y)| (x.0 + nodes, x.1 + nodes) == *y));
-            assert!(edges == 0 || new.edges.len() == 1024);
+            let own = new.nodes[..nodes].iter().enumerate().filter(|(n, node)| new.functions[node.owner].first != *n);
+            assert!(edges == 0 || new.edges.len() == 1024 || own.count() < 200);
         }
     }
 }

@@ -2,10 +2,11 @@
 //! with reports, and buffers. Prints how many inputs of each kind were compared and what came up in them, or the first
 //! difference, and then ends with status 1. Options: `--count N`, `--seed S`, `--from N`, the number of the first
 //! input, and `--threads N`, which changes nothing but the time. With the usual count or more, it also ends with status
-//! 1 if something came up too seldom, which `tally.rs` and `shown.rs` say; with fewer inputs nothing is demanded of
-//! them.
+//! 1 if something came up too seldom, which `tally.rs`, `shown.rs` and `edges.rs` say; with fewer inputs nothing is
+//! demanded of them.
 
 mod answers;
+mod edges;
 mod files;
 mod input;
 mod lines;
@@ -15,9 +16,11 @@ mod refused;
 mod run;
 mod shown;
 mod spoiled;
+mod stirred;
 mod tally;
+mod written;
 
-use answers::{first, second, Answers};
+use answers::{first, second, Answers, Calls};
 use input::{input, BEHIND};
 use run::run;
 use std::fmt::Debug;
@@ -63,8 +66,20 @@ fn differs<T: PartialEq + Debug>(call: &str, first: &T, second: &T) -> Option<St
     Some(format!("{call}\n  the library: {first:?}\n  the second implementation: {second:?}"))
 }
 
-/// The first call whose answer, or whose buffers, differ.
+/// The first call whose answer, or whose buffers, differ; on the table, and on what the writer made of it.
 fn difference(x: &Answers, y: &Answers) -> Option<String> {
+    let of_written = match (&x.of_written, &y.of_written) {
+        (Some(x), Some(y)) => difference_of_calls(x, y),
+        (x, y) => differs("the table that is written, another one than it was", &x.is_some(), &y.is_some()),
+    };
+    difference_of_calls(&x.calls, &y.calls)
+        .or_else(|| differs("ordered: what is wrong with it", &x.wrong, &y.wrong))
+        .or_else(|| differs("ordered", &x.ordered, &y.ordered))
+        .or_else(|| of_written.map(|text| format!("of the table that is written, {text}")))
+        .or_else(|| differs("sizes of the table that is written, and of what it was made of", &x.sizes, &y.sizes))
+}
+
+fn difference_of_calls(x: &Calls, y: &Calls) -> Option<String> {
     differs("check: number; a, b, c", &x.check, &y.check)
         .or_else(|| differs("synchronising: number, place; words", &x.synchronising, &y.synchronising))
         .or_else(|| differs("call order: number, place; order", &x.call_order, &y.call_order))
@@ -85,9 +100,9 @@ fn report(seed: u64, number: u64) {
     println!("difference at input {number} of seed {seed}, {:?}: {what}", input.kind);
     println!("  table: {}", hex(&input.table));
     println!("  choice: {}", hex(&input.choice));
-    let lengths = [input.words.len(), input.order.len(), input.verdicts.len(), input.sizes.len()];
-    let [words, order, verdicts, sizes] = lengths.map(|length| length - BEHIND);
-    println!("  lengths: words {words}, call order {order}, verdicts {verdicts}, sizes {sizes}");
+    let lengths = [input.words.len(), input.order.len(), input.verdicts.len(), input.sizes.len(), input.out.len()];
+    let [words, order, verdicts, sizes, out] = lengths.map(|length| length - BEHIND);
+    println!("  lengths: words {words}, call order {order}, verdicts {verdicts}, sizes {sizes}, ordered table {out}");
     let (list, room) = (&input.list, input.list.sizes.len() - BEHIND);
     println!("  list, told {} choices and {room} sizes: {}", list.number, hex(&list.choices));
     let [names, report] = [&input.files.names, &input.files.report].map(|file| &file[..file.len() - BEHIND]);
@@ -124,10 +139,10 @@ fn main() {
 #[cfg(test)]
 mod tests {
     use super::*;
+    use written::first_sizes;
 
-    /// Changes one thing in the answers.
-    fn wrong(answers: &Answers, which: usize) -> Answers {
-        let mut x = answers.clone();
+    /// Changes one thing in the answers of the calls that take a table.
+    fn wrong_call(x: &mut Calls, which: usize) {
         match which {
             0 => x.check.0 += 1,
             1 => x.check.1[2] ^= 1,
@@ -155,6 +170,25 @@ mod tests {
             20 => x.frames.2[0] ^= 1,
             _ => *x.frames.2.last_mut().expect("a byte") ^= 1 << 7,
         }
+    }
+
+    /// How many things that one changes.
+    const OF_CALLS: usize = 22;
+
+    /// Changes one thing in the answers.
+    fn wrong(answers: &Answers, which: usize) -> Answers {
+        let mut x = answers.clone();
+        match which.checked_sub(OF_CALLS) {
+            None => wrong_call(&mut x.calls, which),
+            Some(0) => x.ordered.number += 1,
+            Some(1) => x.ordered.place ^= 1,
+            Some(2) => x.ordered.length ^= 1,
+            Some(3) => x.ordered.out[0] ^= 1,
+            Some(4) => *x.ordered.out.last_mut().expect("a byte") ^= 1 << 7,
+            Some(5) => x.wrong = Some("it is wrong"),
+            Some(6) => x.of_written = if x.of_written.is_some() { None } else { Some(x.calls.clone()) },
+            _ => x.sizes = if x.sizes.is_some() { None } else { Some(first_sizes(&input(1, 0), &[])) },
+        }
         x
     }
 
@@ -163,8 +197,23 @@ mod tests {
         for number in 0..300 {
             let found = first(&input(1, number));
             assert_eq!(difference(&found, &found), None);
-            for which in 0..22 {
+            for which in 0..OF_CALLS + 8 {
                 assert!(difference(&found, &wrong(&found, which)).is_some());
+            }
+        }
+    }
+
+    /// In what is answered to a table that was put in order, too.
+    #[test]
+    fn a_wrong_answer_to_what_was_written_is_seen() {
+        let found: Vec<Answers> = (0..300).map(|number| first(&input(1, number))).collect();
+        let of_written: Vec<&Answers> = found.iter().filter(|answers| answers.of_written.is_some()).collect();
+        assert!(of_written.len() > 10);
+        for answers in of_written {
+            for which in 0..OF_CALLS {
+                let mut other = answers.clone();
+                wrong_call(other.of_written.as_mut().expect("answers"), which);
+                assert!(difference(answers, &other).is_some());
             }
         }
     }
@@ -174,7 +223,12 @@ mod tests {
         for number in 0..100 {
             let (x, y) = (input(7, number), input(7, number));
             assert!(x.table == y.table && x.choice == y.choice && x.sizes == y.sizes);
-            assert!(x.list.choices == y.list.choices && x.list.sizes == y.list.sizes && x.order == y.order);
+            assert!(
+                x.list.choices == y.list.choices
+                    && x.list.sizes == y.list.sizes
+                    && x.order == y.order
+                    && x.out == y.out
+            );
             assert!(x.files.names == y.files.names && x.files.report == y.files.report);
             assert!(x.table != input(8, number).table);
         }

@@ -1,5 +1,6 @@
-//! Tables that chosen checks of document 01 apply to.
+//! Tables that chosen checks of documents 01 and 02 apply to.
 
+use crate::stirred::apply_15;
 use second::random::{record, Random, FULL};
 
 pub type Records = Vec<[u8; 8]>;
@@ -123,11 +124,16 @@ fn apply_8(random: &mut Random, records: &mut Records) {
     }
 }
 
-const APPLY: [fn(&mut Random, &mut Records); 7] = [apply_2, apply_3, apply_4, apply_5, apply_6, apply_7, apply_8];
+type Apply = fn(&mut Random, &mut Records);
+
+/// The checks but 1, by their numbers, in the order in which they win.
+const APPLY: [(u32, Apply); 8] =
+    [(2, apply_2), (3, apply_3), (4, apply_4), (5, apply_5), (6, apply_6), (7, apply_7), (8, apply_8), (15, apply_15)];
 
 /// Mostly makes two neighbouring checks apply, else one or any two.
 pub fn refused(random: &mut Random, table: &[u8]) -> Vec<u8> {
-    let (any, low) = (1 + random.below(8), 1 + random.below(7));
+    // Check 1 is place 0 among them.
+    let (any, low) = (random.below(APPLY.len() + 1), random.below(APPLY.len()));
     let pair = match random.below(6) {
         0 => [any, any],
         1 => [any, low],
@@ -135,11 +141,11 @@ pub fn refused(random: &mut Random, table: &[u8]) -> Vec<u8> {
     };
     let mut records = records(table);
     // The higher ones first: they ask for a table in which numbers mean something.
-    for check in (2..=8).rev().filter(|check| pair.contains(check)) {
-        APPLY[check - 2](random, &mut records);
+    for (_, (_, apply)) in APPLY.iter().enumerate().rev().filter(|(i, _)| pair.contains(&(i + 1))) {
+        apply(random, &mut records);
     }
     let mut table = records.concat();
-    if pair.contains(&1) {
+    if pair.contains(&0) {
         table.extend(vec![random.below(4) as u8; 1 + random.below(7)]);
     }
     table
@@ -155,17 +161,17 @@ mod tests {
     #[test]
     fn checks_apply() {
         let mut random = Random::new(5);
-        let mut counts = [0; 9];
+        let mut counts = [0; APPLY.len()];
+        let mut refused_ones = 0;
         for _ in 0..700 {
-            for number in 2..=8 {
+            for ((number, apply), count) in APPLY.iter().zip(&mut counts) {
                 let mut records = records(&table(&mut random, Shape::USUAL));
-                APPLY[number - 2](&mut random, &mut records);
-                counts[number] +=
-                    matches!(check(&records.concat()), Err((found, _)) if found as usize == number) as u32;
+                apply(&mut random, &mut records);
+                *count += matches!(check(&records.concat()), Err((found, _)) if found == *number) as u32;
             }
             let bytes = table(&mut random, Shape::USUAL);
-            counts[1] += check(&refused(&mut random, &bytes)).is_err() as u32;
+            refused_ones += check(&refused(&mut random, &bytes)).is_err() as u32;
         }
-        assert!(counts[1] > 600 && counts[2..].iter().all(|&count| count > 350), "{counts:?}");
+        assert!(refused_ones > 600 && counts.iter().all(|&count| count > 300), "{refused_ones} {counts:?}");
     }
 }

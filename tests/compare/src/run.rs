@@ -80,7 +80,7 @@ mod tests {
         let wrong: HashSet<[usize; 4]> = numbers.map(|number| input(SOME.seed, number).numbers).collect();
         move |input| {
             let (found, mut expected) = (second(input), second(input));
-            expected.check.0 += wrong.contains(&input.numbers) as u32;
+            expected.calls.check.0 += wrong.contains(&input.numbers) as u32;
             (found, expected)
         }
     }

@@ -1,6 +1,7 @@
 //! What came up in the inputs, and how often it has to.
 
-use crate::answers::Answers;
+use crate::answers::{Answers, Calls};
+use crate::edges::{Edges, EDGES};
 use crate::input::{Input, BEHIND, KINDS};
 use crate::list::{List, MOST};
 use crate::order::{has_ring_apart, longest_way_back, most_in_turn, with_spawns};
@@ -11,10 +12,11 @@ use second::sizes::numbers_needed;
 use second::table::{check, Program, Sort};
 use std::cmp::Ordering;
 
-const CALLS: [&str; 7] = ["check", "synchronising", "call order", "one choice", "what if", "best choice", "frames"];
+const CALLS: [&str; 8] =
+    ["check", "synchronising", "call order", "one choice", "what if", "best choice", "frames", "ordered"];
 
 /// The numbers that a call returns are below this one.
-const NUMBERS: usize = 15;
+const NUMBERS: usize = 16;
 
 /// What is counted beside kinds, refusals and what the files show.
 #[derive(Clone, Copy, PartialEq, Eq, Debug)]
@@ -122,12 +124,14 @@ pub struct Tally {
     numbers: [[u64; NUMBERS]; CALLS.len()],
     seen: [u64; SEEN.len()],
     shown: [u64; SHOWN.len()],
+    edges: [u64; EDGES.len()],
 }
 
 impl Default for Tally {
     fn default() -> Tally {
         let numbers = [[0; NUMBERS]; CALLS.len()];
-        Tally { kinds: [0; KINDS.len()], numbers, seen: [0; SEEN.len()], shown: [0; SHOWN.len()] }
+        let (seen, shown, edges) = ([0; SEEN.len()], [0; SHOWN.len()], [0; EDGES.len()]);
+        Tally { kinds: [0; KINDS.len()], numbers, seen, shown, edges }
     }
 }
 
@@ -136,9 +140,10 @@ fn refusals(call: usize) -> impl Iterator<Item = usize> {
     (1..NUMBERS).filter(move |&number| match number {
         9 => call == 3 || call == 4,
         10 => call == 5,
-        11 => (3..=5).contains(&call),
+        11 => (3..=5).contains(&call) || call == 7,
         12 => call == 4,
         13 | 14 => call == 6,
+        15 => call != 7,
         _ => true,
     })
 }
@@ -157,14 +162,19 @@ impl Tally {
 
     pub fn add(&mut self, input: &Input, answers: &Answers) {
         self.kinds[input.kind as usize] += 1;
-        let (list, best) = (answers.what_if.0, answers.best_choice.0);
-        let (set, order) = (answers.synchronising.0, answers.call_order.0);
-        let numbers = [answers.check.0, set, order, answers.one_choice.0, list, best, answers.frames.0];
+        let calls = &answers.calls;
+        let (list, best, frames) = (calls.what_if.0, calls.best_choice.0, calls.frames.0);
+        let (set, order) = (calls.synchronising.0, calls.call_order.0);
+        let numbers = [calls.check.0, set, order, calls.one_choice.0, list, best, frames, answers.ordered.number];
         for (call, number) in numbers.into_iter().enumerate() {
             self.numbers[call][number as usize] += 1;
         }
+        let edges = Edges::new(input, answers);
+        for (count, (_, _, is_shown)) in self.edges.iter_mut().zip(EDGES) {
+            *count += is_shown(&edges) as u64;
+        }
         match check(&input.table) {
-            Ok(program) => self.add_accepted(&program, input, answers),
+            Ok(program) => self.add_accepted(&program, input, calls),
             Err((4, place)) => {
                 let more = [Seen::OneFunctionMore, Seen::OneNodeMore, Seen::OneEdgeMore];
                 self.see(more[input.table[8 * place] as usize - 1], 1);
@@ -173,7 +183,7 @@ impl Tally {
         }
     }
 
-    fn add_accepted(&mut self, program: &Program, input: &Input, answers: &Answers) {
+    fn add_accepted(&mut self, program: &Program, input: &Input, answers: &Calls) {
         let spawns: Vec<usize> = (0..program.nodes.len()).filter(|&n| program.nodes[n].sort == Sort::Spawn).collect();
         let depths = depths(program);
         let depth = |s: usize| depths[program.nodes[s].owner];
@@ -198,7 +208,7 @@ impl Tally {
         }
     }
 
-    fn add_list(&mut self, program: &Program, list: &List, answers: &Answers) {
+    fn add_list(&mut self, program: &Program, list: &List, answers: &Calls) {
         let (nodes, bytes) = (program.nodes.len(), list.choices.len());
         match answers.what_if.0 {
             0 => {
@@ -270,6 +280,7 @@ impl Tally {
         let mine = self.kinds.iter_mut().chain(self.numbers.as_flattened_mut()).chain(&mut self.seen);
         let others = other.kinds.iter().chain(other.numbers.as_flattened()).chain(&other.seen);
         let (mine, others) = (mine.chain(&mut self.shown), others.chain(&other.shown));
+        let (mine, others) = (mine.chain(&mut self.edges), others.chain(&other.edges));
         mine.zip(others).for_each(|(x, y)| *x += y);
     }
 
@@ -277,11 +288,12 @@ impl Tally {
         let kinds: Vec<String> = KINDS.iter().zip(self.kinds).map(|((k, _), count)| format!("{count} {k:?}")).collect();
         println!("  {}", kinds.join(", "));
         for (call, numbers) in CALLS.iter().zip(self.numbers) {
-            println!("  {call}: answers by number, 0 to 14: {numbers:?}");
+            println!("  {call}: answers by number, 0 to 15: {numbers:?}");
         }
         let seen = SEEN.iter().map(|(_, what, _)| what).zip(self.seen);
         let shown = SHOWN.iter().map(|(what, ..)| what).zip(self.shown);
-        for (what, count) in seen.chain(shown) {
+        let edges = EDGES.iter().map(|(what, ..)| what).zip(self.edges);
+        for (what, count) in seen.chain(shown).chain(edges) {
             println!("  {what}: {count}");
         }
     }
@@ -303,6 +315,9 @@ impl Tally {
         for (&(what, least, _), count) in SHOWN.iter().zip(self.shown) {
             demands.push((what.to_string(), count, least));
         }
+        for (&(what, least, _), count) in EDGES.iter().zip(self.edges) {
+            demands.push((what.to_string(), count, least));
+        }
         demands.retain(|&(_, count, least)| count < least);
         demands.iter().map(|(what, count, least)| format!("{what}: {count} of at least {least}")).collect()
     }
@@ -316,7 +331,7 @@ mod tests {
     fn enough() -> Tally {
         let numbers = [[LEAST_REFUSALS; NUMBERS]; CALLS.len()];
         let (seen, shown) = (SEEN.map(|(_, _, least)| least), SHOWN.map(|(_, least, _)| least));
-        Tally { kinds: [LEAST_OF_A_KIND; KINDS.len()], numbers, seen, shown }
+        Tally { kinds: [LEAST_OF_A_KIND; KINDS.len()], numbers, seen, shown, edges: EDGES.map(|(_, least, _)| least) }
     }
 
     #[test]
@@ -349,20 +364,26 @@ mod tests {
             tally.shown[what] -= 1;
             assert_eq!(tally.seldom().len(), 1);
         }
+        for what in 0..EDGES.len() {
+            let mut tally = enough();
+            tally.edges[what] -= 1;
+            assert_eq!(tally.seldom().len(), 1);
+        }
     }
 
     /// "9 arises where a choice is handed in, 10 in the best-choice call, 11 where sizes are written", 12 where a list
-    /// of choices is handed in, and 13 and 14 where a report is.
+    /// of choices is handed in, 13 and 14 where a report is, and 15 where the writer isn't asked.
     #[test]
     fn the_refusals_of_each_call() {
         let all: Vec<Vec<usize>> = (0..CALLS.len()).map(|call| refusals(call).collect()).collect();
-        assert_eq!(all[0], [1, 2, 3, 4, 5, 6, 7, 8]);
-        assert_eq!(all[1], [1, 2, 3, 4, 5, 6, 7, 8]);
-        assert_eq!(all[2], [1, 2, 3, 4, 5, 6, 7, 8]);
-        assert_eq!(all[3], [1, 2, 3, 4, 5, 6, 7, 8, 9, 11]);
-        assert_eq!(all[4], [1, 2, 3, 4, 5, 6, 7, 8, 9, 11, 12]);
-        assert_eq!(all[5], [1, 2, 3, 4, 5, 6, 7, 8, 10, 11]);
-        assert_eq!(all[6], [1, 2, 3, 4, 5, 6, 7, 8, 13, 14]);
+        assert_eq!(all[0], [1, 2, 3, 4, 5, 6, 7, 8, 15]);
+        assert_eq!(all[1], [1, 2, 3, 4, 5, 6, 7, 8, 15]);
+        assert_eq!(all[2], [1, 2, 3, 4, 5, 6, 7, 8, 15]);
+        assert_eq!(all[3], [1, 2, 3, 4, 5, 6, 7, 8, 9, 11, 15]);
+        assert_eq!(all[4], [1, 2, 3, 4, 5, 6, 7, 8, 9, 11, 12, 15]);
+        assert_eq!(all[5], [1, 2, 3, 4, 5, 6, 7, 8, 10, 11, 15]);
+        assert_eq!(all[6], [1, 2, 3, 4, 5, 6, 7, 8, 13, 14, 15]);
+        assert_eq!(all[7], [1, 2, 3, 4, 5, 6, 7, 8, 11]);
     }
 
     #[test]
@@ -373,5 +394,6 @@ mod tests {
         assert_eq!(tally.numbers, [[2 * LEAST_REFUSALS; NUMBERS]; CALLS.len()]);
         assert_eq!(tally.seen, SEEN.map(|(_, _, least)| 2 * least));
         assert_eq!(tally.shown, SHOWN.map(|(_, least, _)| 2 * least));
+        assert_eq!(tally.edges, EDGES.map(|(_, least, _)| 2 * least));
     }
 }
