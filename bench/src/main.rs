@@ -1,10 +1,11 @@
 //! Measures the best-choice call and the call for one choice against the second implementation, in one run. Of a ratio above 1 the
 //! proved library is the faster one. The choice of the second call is the best one. Then measures the call for a list of choices
 //! against a call for each of them: of a ratio above 1 the list is the faster one. And the call for the frames of a report
-//! against plain code with a hash map: of a ratio above 1 the proved library is the faster one.
+//! against plain code with a hash map: of a ratio above 1 the proved library is the faster one. And the writer of ordered tables
+//! against plain code with a sort, likewise.
 
 use bench::{plain, report, tables, time::time};
-use nagbiro::{nagbiro_best_choice, nagbiro_frames, nagbiro_one_choice, nagbiro_what_if};
+use nagbiro::{nagbiro_best_choice, nagbiro_frames, nagbiro_one_choice, nagbiro_ordered, nagbiro_what_if};
 use second::random::Random;
 use second::table::Sort;
 
@@ -145,6 +146,22 @@ fn measure_report(table: &tables::Table) {
     );
 }
 
+fn ordered(table: &[u8], out: &mut [u8]) -> usize {
+    let (mut written, mut place) = (0, 0);
+    let number =
+        unsafe { nagbiro_ordered(table.as_ptr(), table.len(), out.as_mut_ptr(), out.len(), &mut written, &mut place) };
+    assert_eq!(number, 0, "refused {number} at {place}");
+    written
+}
+
+fn measure_order(table: &tables::Table) {
+    let (mut ours, mut theirs) = ([0; 12_800], [0; 12_800]);
+    let (length, our_time) = time(|| ordered(&table.bytes, &mut ours));
+    let (plain, their_time) = time(|| plain::ordered(&table.bytes, &mut theirs));
+    assert!(plain == Ok(length) && ours == theirs && ours[..length] != table.bytes, "{}: they differ", table.name);
+    println!("| {} | {our_time:.4} | {their_time:.4} | {:.2} |", table.name, their_time / our_time);
+}
+
 fn main() {
     println!("| Table | Best choice, ms | Ratio | Trials | Passes | One choice, ms | Ratio | Passes | Rounds of the second |");
     println!("|---|---|---|---|---|---|---|---|---|");
@@ -174,4 +191,8 @@ fn main() {
     println!("| Report | Frames, MB/s | Plain code with a hash map, MB/s | Ratio |");
     println!("|---|---|---|---|");
     measure_report(&tables::full_size("full size, recursion", true));
+    println!();
+    println!("| Table | Ordered, ms | Plain code with a sort, ms | Ratio |");
+    println!("|---|---|---|---|");
+    tables::free_tables().iter().for_each(measure_order);
 }

@@ -1,6 +1,8 @@
-//! The frames of a report by plain code with a hash map, as one would write it without a proof. It makes all checks that the call makes.
+//! The frames of a report by plain code with a hash map, and a table's edges in order by a sort, as one would write both without a proof. Each makes all
+//! checks that the call makes.
 
-use second::table::{check, Refusal};
+use second::random::record;
+use second::table::{check, check_free, Refusal};
 use std::collections::HashMap;
 
 /// A line without its line feed, and what stands behind it, if there is a line feed.
@@ -78,10 +80,40 @@ pub fn frames(table: &mut [u8], names: &[u8], report: &[u8]) -> Result<(), Refus
     Ok(())
 }
 
+/// Writes a table with its edges in order, each once, and gives the length.
+pub fn ordered(table: &[u8], out: &mut [u8]) -> Result<usize, Refusal> {
+    let program = check_free(table)?;
+    let front = 8 * (program.functions.len() + program.nodes.len());
+    let mut edges = program.edges;
+    edges.sort_unstable();
+    edges.dedup();
+    let length = front + 8 * edges.len();
+    let out = out.get_mut(..length).ok_or((11, length))?;
+    out[..front].copy_from_slice(&table[..front]);
+    for (place, (from, to)) in out[front..].chunks_exact_mut(8).zip(edges) {
+        place.copy_from_slice(&record(3, 0, from, to, 0));
+    }
+    Ok(length)
+}
+
 #[cfg(test)]
 mod tests {
     use super::*;
     use crate::{report, tables};
+
+    /// As the second implementation, and the tables are such that there is something to do.
+    #[test]
+    fn plain_order_is_right() {
+        for table in tables::free_tables() {
+            let new = second::ordered::ordered(&table.bytes, 12_800).expect("a table");
+            assert!(new != table.bytes && check(&new).is_ok() && check(&table.bytes).is_err());
+            let mut out = vec![9; 12_800];
+            assert_eq!(ordered(&table.bytes, &mut out), Ok(new.len()));
+            assert!(out[..new.len()] == new && out[new.len()..].iter().all(|&byte| byte == 9));
+            assert_eq!(ordered(&table.bytes, &mut out[..new.len() - 1]), Err((11, new.len())));
+            assert_eq!(ordered(&table.bytes[1..], &mut out).map_err(|(number, _)| number), Err(1));
+        }
+    }
 
     fn of(names: &str, report: &str) -> Result<Vec<u8>, Refusal> {
         let mut table = tables::case_a().bytes;

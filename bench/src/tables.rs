@@ -118,6 +118,30 @@ fn line(name: &'static str, order: Order) -> Table {
     records.table(name)
 }
 
+// The table with its edges in the order that this gives them.
+fn with_edges(table: Table, name: &'static str, order: impl FnOnce(&mut [[u8; 8]])) -> Table {
+    let records = table.bytes.chunks_exact(8).map(|record| record.try_into().expect("8 bytes"));
+    let (front, mut edges): (Vec<[u8; 8]>, Vec<[u8; 8]>) = records.partition(|record: &[u8; 8]| record[0] != 3);
+    order(&mut edges);
+    Table { name, bytes: [front, edges].concat().concat() }
+}
+
+/// The tables that are put in order: case A with its edges the other way round; and one of full size whose edges stand in a
+/// random order, about one in ten of them a repeated one.
+pub fn free_tables() -> Vec<Table> {
+    let mut random = Random::new(7);
+    let stirred = |edges: &mut [[u8; 8]]| {
+        for _ in 0..100 {
+            edges[random.below(1024)] = edges[random.below(1024)];
+        }
+        random.shuffle(edges);
+    };
+    vec![
+        with_edges(case_a(), "A, edges descending", |edges| edges.reverse()),
+        with_edges(full_size("full size", true), "full size, edges in random order, some repeated", stirred),
+    ]
+}
+
 // Two functions in a line with a sync after every 63 nodes; all 500 spawns are of the second.
 fn spawns() -> Table {
     let mut records = Records::default();
