@@ -19,6 +19,10 @@ use Rattle.table.specs.Below.{any, count}
 use Rattle.table.proofs.Below.{last_or_before, count_all, count_same, none_counted}
 use Rattle.program_bytes.specs.Bytes.{each}
 
+pub at_most_one : (b : Bool) → cond b 1 0 ≤ 1
+at_most_one true = omega arith
+at_most_one false = omega arith
+
 counts_one : (b : Bool) → b ≡ true → ◌≡◌ {A = ℕ} (cond b 1 0) 1
 counts_one b t = rw t refl
 
@@ -204,11 +208,11 @@ pub few_reached : (f : ℕ → ℕ) (m n : ℕ) → ((e : ℕ) → e < m → f e
 unfolding any
 few_reached f zero n h = omega (arith, none_counted (λ p. false) n (λ p l. refl))
 few_reached f (suc m) n h =
-    omega (arith, few_reached f m n (λ e l. h e (omega arith)), count_with (λ p. any (λ e. eqb p (f e)) m) (f m) n (h m (omega arith)), at_most_one (any (λ e. eqb (f m) (f e)) m), turned)
+    omega (arith, few_reached f m n (λ e l. h e (omega arith)), count_with (λ p. any (λ e. eqb p (f e)) m) (f m) n (h m (omega arith)), one_or_none (any (λ e. eqb (f m) (f e)) m), turned)
   where
-    at_most_one : (b : Bool) → cond b 0 1 ≤ 1
-    at_most_one true = omega arith
-    at_most_one false = omega arith
+    one_or_none : (b : Bool) → cond b 0 1 ≤ 1
+    one_or_none true = omega arith
+    one_or_none false = omega arith
 
     turned : count (λ p. any (λ e. eqb p (f e)) m || eqb p (f m)) n ≡ count (λ p. eqb p (f m) || any (λ e. eqb p (f e)) m) n
     turned = count_same _ _ n (λ p l. or_comm (any (λ e. eqb p (f e)) m) (eqb p (f m)))

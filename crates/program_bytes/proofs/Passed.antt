@@ -2,11 +2,11 @@
 use Prim.Native.Nat.{ℕ, zero, suc, ◌+◌, ◌-◌, ◌/◌, ◌%◌, ◌<◌, ◌≤◌}
 use mathlib.Core.Path.{◌≡◌, refl, sym, ◌∙◌, subst}
 use mathlib.Core.Bool.{Bool, true, false, cond, ◌&&◌, ◌||◌}
-use mathlib.Core.Logic.{⊎_elim}
+use mathlib.Core.Logic.{inl, inr, ⊎_elim}
 use native.Mathlib.Omega.{arith}
 use lib.Dec.{eqb, leb}
 use lib.ListN.{length}
-use Rattle.std.proofs.lemmas.Bool.{cases_lt, and_right, le-leb, lt-leb, lt-ltb, le-ltb, eq-eqb, ne_eqb}
+use Rattle.std.proofs.lemmas.Bool.{cases_lt, and_right, le-leb, lt-leb, le-ltb, eq-eqb, ne_eqb}
 use Rattle.table.specs.Below.{count}
 use Rattle.table.specs.Record.{records, kind_of, functions, nodes, edges, node_owner, node_sort, is_function, is_node, is_edge, is_entry, plain, sync, has_target}
 use Rattle.table.specs.Refusal.{refusal}
@@ -14,16 +14,13 @@ use Rattle.table.specs.Checks.{Accepted, above, broken, unlisted, out_of_order, 
 use Rattle.table.specs.Program.{Program}
 use Rattle.table.specs.WellFormed.{WellFormed}
 use Rattle.table.proofs.Below.{any_some, earliest_none}
-use Rattle.table.proofs.Booleans.{either_way, or_true}
+use Rattle.table.proofs.Ascending.{cases_above}
+use Rattle.table.proofs.Booleans.{either_way}
 use Rattle.program_bytes.specs.Bytes.{bytes, bytes_of, Describable}
-use Rattle.program_bytes.proofs.Each.{count_rises, count_grows}
+use Rattle.program_bytes.proofs.Each.{at_most_one, count_rises, count_grows}
 use Rattle.program_bytes.specs.Pairs.{is_pair}
 use Rattle.program_bytes.proofs.Reading.{bytes_long}
 use Rattle.program_bytes.proofs.Parts.{all_records, function_at, node_at, pair_at, each_record, records_are, functions_are, nodes_are, edges_are, node_reads}
-
-at_most_one : (b : Bool) → cond b 1 0 ≤ 1
-at_most_one true = omega arith
-at_most_one false = omega arith
 
 -- where no more than the limit pass, none has as many as the limit before it
 none_over : (test : ℕ → Bool) (limit n : ℕ) → count test n ≤ limit → (i : ℕ) → i < n → (test i && leb limit (count test i)) ≡ false
@@ -147,10 +144,8 @@ module _ (g : Program) (w : WellFormed g) where
   -- and its edge is above
   later_above : (p q : ℕ) → p < q → above (q / 512) (q % 512) (p / 512) (p % 512) ≡ true
   later_above p q h =
-      ⊎_elim
-      (λ (l : p / 512 < q / 512). rw (lt-ltb (p / 512) (q / 512) l) refl)
-      (λ (m : q / 512 ≤ p / 512). rw (eq-eqb (p / 512) (q / 512) (omega arith), lt-ltb (p % 512) (q % 512) (omega arith)) (or_true _))
-      (cases_lt (p / 512) (q / 512))
+      cases_above (q / 512) (q % 512) (p / 512) (p % 512)
+      (⊎_elim (λ (l : p / 512 < q / 512). inl l) (λ (m : q / 512 ≤ p / 512). inr (omega arith, omega arith)) (cases_lt (p / 512) (q / 512)))
 
   all_above : (r : ℕ) → r < records (bytes_of g) → not_above (bytes_of g) r ≡ false
   unfolding not_above
