@@ -2,15 +2,14 @@
 use Prim.Native.Nat.{ℕ, ◌<◌, ◌≤◌}
 use mathlib.Core.Path.{◌≡◌, refl, sym, ◌∙◌, subst}
 use mathlib.Core.Bool.{Bool, true, false, true≢false, not, ◌&&◌, ◌||◌}
-use mathlib.Core.List.{List, [], ◌∷◌, map, Memᴰ}
-use Rattle.std.specs.Prelude.{cond, Option, None, Some, option_map}
-use Rattle.std.specs.Option.{option_or}
-use lib.Dec.{eqb, leb, ltb}
+use mathlib.Core.List.{List, map, Memᴰ}
+use Rattle.std.specs.Prelude.{Option, None, Some}
+use lib.Dec.{eqb, leb}
 use lib.ListN.{length, drop}
-use borrow.Author.Tests.{eq-eqb, ne_eqb, eqb-true, le-ltb, ltb-false, leb-true, not-false}
+use borrow.Author.Tests.{eq-eqb, ne_eqb, eqb-true, leb-true, not-false}
 use Rattle.table.specs.Below.{earliest}
 use Rattle.table.specs.Record.{spawn}
-use Rattle.table.specs.Refusal.{Check, refused_at, refusal}
+use Rattle.table.specs.Refusal.{refusal}
 use Rattle.std.specs.Prelude.{Ok, Err}
 use Rattle.std.specs.Prelude.{Result as CodeResult}
 use Rattle.table.specs.Answer.{outcome, outcome_of}
@@ -24,7 +23,7 @@ use Rattle.table.proofs.Refusals.{refusal_pass, refusal_here, whole_here, whole_
 use Rattle.rules.specs.Choice.{unmerged, unguarded, ChoiceFor}
 use Rattle.rules.specs.Rules.{entries, LeastSizes}
 use Rattle.sizes.specs.Call.{Call, choice_of, wrong_length, outside, choice_checks, call_checks, call_result}
-use Rattle.table.specs.Result.{done, refused, result_for, result_of, table_result, room_row, room_result}
+use Rattle.table.specs.Result.{done, refused, result_of, table_result, room_result}
 use Rattle.table.proofs.Results.{last_row, room_fits, told_refused, none_refused, table_accepted, checked_result}
 use Rattle.sizes.specs.Known.{KnownFor}
 use Rattle.sizes.specs.Trials.{known_program, FoundFor}

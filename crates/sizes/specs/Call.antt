@@ -1,5 +1,5 @@
 -- Document 01, "Refused tables": the checks of a call that is handed a choice and a sizes buffer, and what it answers.
-use Rattle.std.specs.Prelude.{ℕ, ◌≡◌, Bool, cond, not, ◌&&◌, ◌||◌, List, [], ◌∷◌, ◌++◌, map, eqb, leb, ltb, length, get_or}
+use Rattle.std.specs.Prelude.{ℕ, ◌≡◌, Bool, not, ◌&&◌, ◌||◌, List, [], ◌∷◌, ◌++◌, map, eqb, leb, length, get_or}
 use Rattle.table.specs.Refusal.{Check, of_whole, of_each, over, refusal}
 use Rattle.table.specs.Record.{spawn}
 use Rattle.table.specs.Checks.{checks}
