@@ -23,10 +23,17 @@ impl Size {
     pub fn from_frame(bytes: u32) -> Size
         ensures { result ≡ size_of bytes }
     {
-        if Size::CEILING < bytes {
+        Size::from_number(bytes)
+    }
+
+    // The size that a number stands for: so many bytes, or unbounded where they are above the ceiling.
+    pub fn from_number(number: u32) -> Size
+        ensures { result ≡ size_of number }
+    {
+        if Size::CEILING < number {
             return Size::Unbounded;
         }
-        Size::Bytes(bytes)
+        Size::Bytes(number)
     }
 
     // The sum: unbounded where it is above the ceiling or has an unbounded part.
@@ -34,7 +41,7 @@ impl Size {
         ensures { result ≡ size_of (value_of self + value_of other) }
     {
         match (self, other) {
-            (Size::Bytes(a), Size::Bytes(b)) => Size::from_frame(a.saturating_add(b)),
+            (Size::Bytes(a), Size::Bytes(b)) => Size::from_number(a.saturating_add(b)),
             _ => Size::Unbounded,
         }
     }
@@ -44,7 +51,7 @@ impl Size {
         ensures { result ≡ size_of (max (value_of self) (value_of other)) }
     {
         match (self, other) {
-            (Size::Bytes(a), Size::Bytes(b)) => Size::from_frame(a.max(b)),
+            (Size::Bytes(a), Size::Bytes(b)) => Size::from_number(a.max(b)),
             _ => Size::Unbounded,
         }
     }

@@ -65,7 +65,7 @@ impl Solution {
             turns: 0,
         };
         for (x, number) in numbers.iter().enumerate() {
-            solution.sizes[x] = Size::from_frame(*number);
+            solution.sizes[x] = Size::from_number(*number);
         }
         solution
     }
@@ -101,7 +101,7 @@ impl Solution {
         requires { (rule.part < 3840) × AmongSizes rule.other }
         ensures { value_of result ≡ gives (number_at self.now) (rule_form rule) }
     {
-        let sum = Size::from_frame(rule.base).add(self.get(rule.part));
+        let sum = Size::from_number(rule.base).add(self.get(rule.part));
         match rule.other {
             Some(other) => sum.add(self.sizes[other]),
             None => sum,

@@ -11,9 +11,9 @@ use Rattle.solver.proofs.solution.Solution.starting.Goals as goal
 pub loop-x-preserved : goal.loop-x-preserved
 loop-x-preserved c =
     let L = c.loop-x in (
-      written_size (λ y. cap (at c.args.numbers.now y)) L.x c.from_frame.result L.solution.sizes L.invariant.0
+      written_size (λ y. cap (at c.args.numbers.now y)) L.x c.from_number.result L.solution.sizes L.invariant.0
           (omega (arith, length-replicate {A = ℕ} 2304 0))
-          (value_is c.from_frame.result _ c.from_frame.ensures),
+          (value_is c.from_number.result _ c.from_number.ensures),
       L.invariant.1,
       L.invariant.2,
       L.invariant.3,
