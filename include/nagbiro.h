@@ -44,7 +44,10 @@ extern "C" {
 /* How many words a synchronising set has. */
 #define NAGBIRO_WORDS 8
 
-/* How an unbounded size is written. */
+/*
+ * How an unbounded size is written. A frame counts as its bytes rounded up to a multiple of 16, and
+ * from 65,521 on it is unbounded; the table keeps its bytes.
+ */
 #define NAGBIRO_UNBOUNDED 65536
 
 /* The bytes of a choice: no spawn, and the three verdicts on a spawn. */

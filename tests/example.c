@@ -1,7 +1,7 @@
 /*
  * A worked example of the C interface: case A of document 01. Function 0, an entry with frame 40,
  * is plain 0, spawn 1 of function 1, sync 2, spawn 3 of function 2, plain 4, in a line. Functions
- * 1 and 2 have one plain node each, and frames 24 and 100.
+ * 1 and 2 have one plain node each, and frames 24 and 100. The three frames count as 48, 32 and 112.
  */
 #include <inttypes.h>
 #include <stdio.h>

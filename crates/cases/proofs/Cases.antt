@@ -6,6 +6,7 @@ use Rattle.table.specs.Below.{earliest, any, count}
 use Rattle.table.specs.Refusal.{refusal}
 use Rattle.table.specs.Record.{kind_of, sort_of, field_a, field_b, field_c, functions, nodes, edges}
 use Rattle.table.specs.Checks.{free_checks, order_checks, checks, broken, unlisted, out_of_order, too_many, no_entry, absent, foreign, not_plain, not_above}
+use Rattle.size.specs.Size.{aligned}
 use Rattle.program.specs.Frame.{frame_of}
 use Rattle.rules.specs.Choice.{unguarded}
 use Rattle.rules.specs.declared.sums.Sum.TheVariants.{After, Before, Through}
@@ -76,5 +77,5 @@ evidence =
     ∷ []
 
 pub cases_hold : CasesHold
-unfolding refusal free_checks order_checks checks earliest broken unlisted out_of_order too_many no_entry absent foreign not_plain not_above any count kind_of sort_of field_a field_b field_c functions nodes edges frame_of row rows_of every bits grown set_of reach_of sets_test run settled safe_test order_test choice_test obstacle best_test cases_test digits decimal size_text size_field four_fields verdict_word function_line spawn_line joined listing
+unfolding refusal free_checks order_checks checks earliest broken unlisted out_of_order too_many no_entry absent foreign not_plain not_above any count kind_of sort_of field_a field_b field_c functions nodes edges aligned frame_of row rows_of every bits grown set_of reach_of sets_test run settled safe_test order_test choice_test obstacle best_test cases_test digits decimal size_text size_field four_fields verdict_word function_line spawn_line joined listing
 cases_hold frame a b c d e f g = all_hold (cases frame a b c d e f g) evidence refl

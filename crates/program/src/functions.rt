@@ -4,6 +4,7 @@ ghost use Rattle.table.specs.Program.{program_of};
 ghost use Rattle.program.specs.Frame.{frame_of};
 
 use crate::Program;
+use size::Size;
 use table::record;
 
 impl Program<'_> {
@@ -31,11 +32,12 @@ impl Program<'_> {
         record::field_b(self.table, f)
     }
 
-    // What the frame of function f counts as, in bytes.
+    // What the frame of function f counts as: a number of bytes, or 65,536 where it is unbounded.
     pub fn frame(&self, f: usize) -> u32
         requires { f < self.now.of.functions }
         ensures { (result ≡ frame_of (program_of self.now.table.now) f) × (result ≤ 65536) }
     {
-        u32::from(record::field_c(self.table, f))
+        let bytes = u32::from(record::field_c(self.table, f));
+        u32::from(Size::from_frame(bytes))
     }
 }

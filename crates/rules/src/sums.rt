@@ -118,5 +118,5 @@ pub(crate) fn frame_size(program: &Program<'_>, f: usize) -> Size
     requires { f < program.now.of.functions }
     ensures { value_of result ≡ frame_of (program_of program.now.table.now) f }
 {
-    Size::from_frame(program.frame(f))
+    Size::from_number(program.frame(f))
 }

@@ -1,4 +1,5 @@
--- For the crates above: laws of sizes as numbers, of arrays of them, and of numbers that are written.
+-- For the crates above: laws of sizes as numbers, of arrays of them, of numbers that are written, and of what a frame counts as.
 pub mod Values
 pub mod Maps
 pub mod Writing
+pub mod Frames

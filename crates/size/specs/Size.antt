@@ -1,5 +1,6 @@
--- Document 01, "Sizes and their rules": sizes as numbers, and what each case of the code's `Size` stands for.
+-- Document 01, "Sizes and their rules": sizes as numbers, what each case of the code's `Size` stands for, and what a frame counts as.
 use Rattle.std.specs.Prelude.{ℕ, min, cond, ltb}
+use Rattle.std.specs.Int.{next_multiple_of}
 use Rattle.size.specs.declared.Size.{Size}
 use Rattle.size.specs.declared.Size.TheVariants.{Bytes, Unbounded}
 
@@ -19,3 +20,7 @@ value_of Unbounded = unbounded
 -- the case that a number is written as: "a number of bytes up to 65,535 or unbounded". What the code makes is always this.
 unfoldable pub size_of : ℕ → Size
 size_of n = cond (ltb n unbounded) (Bytes n) Unbounded
+
+-- Document 02, Ask 6: "A frame counts as its bytes rounded up to a multiple of 16 [..]. Frames of 65,521 and more are unbounded by that."
+unfoldable pub aligned : ℕ → ℕ
+aligned bytes = next_multiple_of bytes 16

@@ -2,7 +2,7 @@
 #![tactic(auto)]
 
 ghost use Rattle.std.specs.Prelude.{◌≡◌, ◌+◌, eqb, max};
-ghost use Rattle.size.specs.Size.{size_of, value_of, unbounded};
+ghost use Rattle.size.specs.Size.{aligned, size_of, value_of, unbounded};
 
 // Sizes are compared by the numbers that they are written as: what `Bytes` holds is any `u32`, of which those past the ceiling are unbounded, and a derived
 // comparison would tell these apart. Names and matches are those of document 01's last list.
@@ -19,11 +19,18 @@ impl Size {
 
     pub const ZERO: Size = Size::Bytes(0);
 
-    // What a frame counts as.
+    // The largest frame that counts as a number of bytes.
+    const LARGEST_FRAME: u32 = Size::CEILING / 16 * 16;
+
+    // What a frame counts as: its bytes rounded up to a multiple of 16.
+    #[tactic(auto, using(crate::proofs::Frames::frame_bytes, crate::proofs::Frames::frame_unbounded))]
     pub fn from_frame(bytes: u32) -> Size
-        ensures { result ≡ size_of bytes }
+        ensures { result ≡ size_of (aligned bytes) }
     {
-        Size::from_number(bytes)
+        if Size::LARGEST_FRAME < bytes {
+            return Size::Unbounded;
+        }
+        Size::Bytes(bytes.next_multiple_of(16))
     }
 
     // The size that a number stands for: so many bytes, or unbounded where they are above the ceiling.

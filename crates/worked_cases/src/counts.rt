@@ -13,7 +13,7 @@ pub fn show_set_passes(page: &mut Page, t: &[u8]) {
     }
 }
 
-// In how many passes the sizes of a choice are found. A loss of speed raises them: to some 65,540 on recursion and on a
+// In how many passes the sizes of a choice are found. A loss of speed raises them: to some 4,100 on recursion and on a
 // loop that adds up, if entries do not leap to unbounded; to 500 on a line of nodes, if the edges are gone over against
 // their way.
 pub fn show_passes(page: &mut Page, t: &[u8], choice: &[u8]) {

@@ -39,9 +39,10 @@ pub enum Kind {
     Small,
     /// A chain of up to 64 functions, nearly all by calls, mostly with recursion: short ways back, or long ones.
     Calls,
-    /// Like small ones with neither recursion nor loops, and frames of 1 too.
+    /// Like small ones with neither recursion nor loops, and frames of 1 to 17 too.
     Straight,
-    /// Recursion and loops with frames of 1. The second implementation takes many rounds.
+    /// Recursion and loops with such frames. Sizes go up by 16 bytes at a time, and the second implementation takes many
+    /// rounds.
     Crawling,
     /// A chain of functions, so that depths go to ten and more, mostly with recursion and loops.
     Deep,
@@ -49,7 +50,7 @@ pub enum Kind {
     Many,
     /// 64 functions, 512 nodes and 1,024 edges, with recursion and loops and few spawns.
     Full,
-    /// The same with neither recursion nor loops, with frames of 1 and many spawns.
+    /// The same with neither recursion nor loops, with frames of 1 to 17 and many spawns.
     FullStraight,
     /// Functions, nodes and edges, some of them as many as allowed, or one more.
     Limits,

@@ -13,6 +13,7 @@ mod lines;
 mod list;
 mod order;
 mod refused;
+mod rounded;
 mod run;
 mod shown;
 mod spoiled;

@@ -5,9 +5,10 @@ use crate::edges::{Edges, EDGES};
 use crate::input::{Input, BEHIND, KINDS};
 use crate::list::{List, MOST};
 use crate::order::{has_ring_apart, longest_way_back, most_in_turn, with_spawns};
+use crate::rounded::{adds_up_to_most, has_equal_frames, has_frame, order_by_bytes};
 use crate::shown::{Shown, SHOWN};
 use second::call_order::{call_order, reaching};
-use second::choice::{depths, order};
+use second::choice::{depths, greedy_in, order};
 use second::sizes::numbers_needed;
 use second::table::{check, Program, Sort};
 use std::cmp::Ordering;
@@ -30,6 +31,13 @@ enum Seen {
     Mixed,
     Deep,
     FrameFirst,
+    EqualFrames,
+    OtherByBytes,
+    OtherBestByBytes,
+    SmallFrame,
+    LastBounded,
+    UnboundedFrame,
+    SumOfMost,
     Many,
     Functions,
     Nodes,
@@ -67,7 +75,7 @@ enum Seen {
 }
 
 /// The least number of each in `COUNT` inputs.
-const SEEN: [(Seen, &str, u64); 43] = [
+const SEEN: [(Seen, &str, u64); 50] = [
     (Seen::Safe, "choices found safe", 60_000),
     (Seen::Unsafe, "choices found unsafe", 30_000),
     (Seen::WrongBytes, "choices with more than one wrong byte", 10_000),
@@ -77,6 +85,13 @@ const SEEN: [(Seen, &str, u64); 43] = [
     (Seen::Mixed, "best choices with different verdicts", 30_000),
     (Seen::Deep, "accepted tables with a spawn of depth 10 or more", 4_000),
     (Seen::FrameFirst, "accepted tables where a larger frame comes before a smaller number", 20_000),
+    (Seen::EqualFrames, "accepted tables where two spawned frames differ and count the same", 12_000),
+    (Seen::OtherByBytes, "accepted tables whose spawns would stand otherwise by the bytes of their frames", 5_500),
+    (Seen::OtherBestByBytes, "best choices that would be others by that", 30),
+    (Seen::SmallFrame, "accepted tables with a frame of 1 to 17", 6_000),
+    (Seen::LastBounded, "accepted tables with a frame of 65,505 to 65,520", 17_000),
+    (Seen::UnboundedFrame, "accepted tables with a frame from 65,521 on", 22_000),
+    (Seen::SumOfMost, "best choices with a size of 65,520 that is a sum", 300),
     (Seen::Many, "accepted tables with 20 spawns or more", 6_000),
     (Seen::Functions, "accepted tables with 64 functions", 1_500),
     (Seen::Nodes, "accepted tables with 512 nodes", 2_000),
@@ -189,7 +204,8 @@ impl Tally {
         let depth = |s: usize| depths[program.nodes[s].owner];
         self.see(Seen::Deep, spawns.iter().any(|&s| depth(s) >= 10) as usize);
         let frame_first = |pair: &[usize]| depth(pair[0]) == depth(pair[1]) && pair[0] > pair[1];
-        self.see(Seen::FrameFirst, order(program).windows(2).any(frame_first) as usize);
+        let order = order(program);
+        self.see(Seen::FrameFirst, order.windows(2).any(frame_first) as usize);
         self.see(Seen::Many, (spawns.len() >= 20) as usize);
         self.see(Seen::Functions, (program.functions.len() == 64) as usize);
         self.see(Seen::Nodes, (program.nodes.len() == 512) as usize);
@@ -203,8 +219,25 @@ impl Tally {
         self.add_list(program, &input.list, answers);
         self.add_order(program, input.order.len() - BEHIND);
         self.add_files(&Shown::new(program.functions.len(), &input.files, answers.frames.0, answers.frames.1));
+        self.add_frames(program, &order, answers);
         if answers.best_choice.0 == 0 {
             self.add_best(&spawns, &answers.best_choice.2);
+        }
+    }
+
+    fn add_frames(&mut self, program: &Program, order: &[usize], answers: &Calls) {
+        let by_bytes = order_by_bytes(program);
+        let is_other = by_bytes != order;
+        self.see(Seen::EqualFrames, has_equal_frames(program) as usize);
+        self.see(Seen::OtherByBytes, is_other as usize);
+        self.see(Seen::SmallFrame, has_frame(program, 1..=17) as usize);
+        self.see(Seen::LastBounded, has_frame(program, 65_505..=65_520) as usize);
+        self.see(Seen::UnboundedFrame, has_frame(program, 65_521..=65_535) as usize);
+        let (number, _, verdicts, sizes) = &answers.best_choice;
+        if *number == 0 {
+            let best = &verdicts[..program.nodes.len()];
+            self.see(Seen::OtherBestByBytes, (is_other && greedy_in(program, &by_bytes) != best) as usize);
+            self.see(Seen::SumOfMost, adds_up_to_most(program, &sizes[..numbers_needed(program)]) as usize);
         }
     }
 

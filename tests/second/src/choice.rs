@@ -1,7 +1,7 @@
 //! "Preference and the best choice".
 
 use crate::safety::safe_choice;
-use crate::sizes::{least, numbers_needed};
+use crate::sizes::{counted, least, numbers_needed};
 use crate::sync::synchronising;
 use crate::table::{check, Program, Refusal, Sort};
 use std::cmp::Reverse;
@@ -32,13 +32,14 @@ pub fn depths(program: &Program) -> Vec<usize> {
 }
 
 /// "A spawn's depth is its owner's. Deeper spawns come first"; "Equal depth is now broken by the larger frame of the
-/// spawned function, and then by the smaller node number."
+/// spawned function, and then by the smaller node number"; frames are "rounded frames, and the order of Ask 2 compares
+/// those too".
 pub fn order(program: &Program) -> Vec<usize> {
     let depths = depths(program);
     let mut spawns: Vec<usize> = (0..program.nodes.len()).filter(|&n| program.nodes[n].sort == Sort::Spawn).collect();
     spawns.sort_by_key(|&n| {
         let node = &program.nodes[n];
-        (Reverse(depths[node.owner]), Reverse(program.functions[node.target].frame), n)
+        (Reverse(depths[node.owner]), Reverse(counted(program.functions[node.target].frame)), n)
     });
     spawns
 }

@@ -49,7 +49,7 @@ impl Random {
 /// The frames of functions.
 #[derive(Clone, Copy, PartialEq, Eq)]
 pub enum Frames {
-    /// Some of 1 and of little more. In recursion and loops they take many rounds.
+    /// Some of 1 to 17 and of little more. In recursion and loops they take many rounds.
     Small,
     /// 0, or some thousands and more.
     Usual,
@@ -103,19 +103,54 @@ pub fn record(kind: u8, sort: u8, a: usize, b: usize, c: usize) -> [u8; 8] {
     [kind, sort, a[0], a[1], b[0], b[1], c[0], c[1]]
 }
 
+/// One of so many numbers from the least one on, mostly a multiple of 16 or next to one.
+fn near_line(random: &mut Random, least: usize, count: usize) -> usize {
+    let any = least + random.below(count);
+    if random.once_in(3) {
+        return any;
+    }
+    any / 16 * 16 + random.below(3) - 1
+}
+
 fn frame(random: &mut Random, frames: Frames) -> usize {
     match random.below(12) {
         0..=3 => 0,
-        4 => 65_535,
-        5 => 65_534,
-        6 => 21_845 + random.below(2),
-        7 => 32_767 + random.below(2),
-        8 | 9 => 10_000 + random.below(50_000),
-        10 if frames == Frames::Small => 1,
+        // The largest that are bounded, and the others
+        4 => [65_504, 65_505, 65_519, 65_520][random.below(4)],
+        5 => [65_521, 65_522, 65_534, 65_535][random.below(4)],
+        // About a third of 65,520 and about half of it, so that sums end there, or just below or above
+        6 => 21_839 + random.below(3),
+        7 => [32_752, 32_753, 32_768, 32_769][random.below(4)],
+        8 | 9 => near_line(random, 10_000, 50_000),
+        10 if frames == Frames::Small => [1, 15, 16, 17][random.below(4)],
         11 if frames == Frames::Small => 2 + random.below(60),
-        10 | 11 if frames == Frames::Large => 16_384 + random.below(16_384),
-        _ => 4_000 + random.below(4_000),
+        10 | 11 if frames == Frames::Large => near_line(random, 16_384, 16_384),
+        _ => near_line(random, 4_000, 4_000),
     }
+}
+
+/// A frame that counts as this one does, mostly with other bytes.
+fn counted_alike(random: &mut Random, frame: usize) -> usize {
+    let rounded = frame.next_multiple_of(16);
+    if rounded == 0 {
+        return 0;
+    }
+    (rounded - random.below(16)).min(65_535)
+}
+
+/// A frame for each of so many functions, often one that counts as an earlier one does.
+fn frames(random: &mut Random, frames: Frames, count: usize) -> Vec<usize> {
+    let mut all: Vec<usize> = Vec::new();
+    for f in 0..count {
+        let new = if f > 0 && random.once_in(3) {
+            let earlier = all[random.below(f)];
+            counted_alike(random, earlier)
+        } else {
+            frame(random, frames)
+        };
+        all.push(new);
+    }
+    all
 }
 
 /// A function while its table is made.
@@ -277,11 +312,11 @@ pub fn table(random: &mut Random, shape: Shape) -> Vec<u8> {
         random.shuffle(&mut places);
     }
     let an_entry = if random.once_in(4) { random.below(functions.len()) } else { 0 };
+    let frames = frames(random, shape.frames, functions.len());
     let mut records = vec![[0; 8]; functions.len()];
     for (f, function) in functions.iter().enumerate() {
         let entry = f == an_entry || random.once_in(if shape.chain { 40 } else { 8 });
-        let frame = frame(random, shape.frames);
-        records[places[f]] = record(1, entry as u8, function.first(), function.exit(), frame);
+        records[places[f]] = record(1, entry as u8, function.first(), function.exit(), frames[f]);
     }
     for (&f, &(sort, target)) in owners.iter().zip(&sorts) {
         let target = if sort == 1 || sort == 2 { places[target] } else { 0 };

@@ -14,6 +14,16 @@ pub fn add(x: u32, y: u32) -> u32 {
     x + y
 }
 
+/// Document 02: "A frame counts as its bytes rounded up to a multiple of 16, in every rule where a frame stands. Frames of
+/// 65,521 and more are unbounded by that."
+pub fn counted(frame: u32) -> u32 {
+    let rounded = frame.next_multiple_of(16);
+    if rounded > 65_535 {
+        return UNBOUNDED;
+    }
+    rounded
+}
+
 pub const TOTAL: usize = 0;
 pub const POST: usize = 1;
 pub const PRE: usize = 2;
@@ -110,11 +120,11 @@ impl Sums {
     }
 }
 
-/// What the rules of functions ask for.
+/// What the rules of functions ask for, each "for function f, with frame that of f".
 fn raise_functions(program: &Program, table: &Table, sums: &Sums, next: &mut Table) {
     // "Total(f): frame + Total(n) for each node n of f."
     for (n, node) in program.nodes.iter().enumerate() {
-        let frame = program.functions[node.owner].frame;
+        let frame = counted(program.functions[node.owner].frame);
         raise(&mut next.functions[node.owner][TOTAL], add(frame, table.nodes[n][TOTAL]));
     }
     // "Total(f): frame + Post(first) + Through of those between + Pre(last), for each open path of two or more nodes."
@@ -122,14 +132,14 @@ fn raise_functions(program: &Program, table: &Table, sums: &Sums, next: &mut Tab
     for &(u, v) in &program.edges {
         let f = program.nodes[u].owner;
         let path = add(sums.front[u], table.nodes[v][PRE]);
-        raise(&mut next.functions[f][TOTAL], add(program.functions[f].frame, path));
+        raise(&mut next.functions[f][TOTAL], add(counted(program.functions[f].frame), path));
     }
     for (f, function) in program.functions.iter().enumerate() {
         let sizes = &mut next.functions[f];
         // "Post(f): Post(first) + Through of all others, for each open path ending at the exit."
         raise(&mut sizes[POST], sums.front[function.exit]);
         // "Pre(f): frame + Through of all but the last + Pre(last), for each open path from the first node."
-        raise(&mut sizes[PRE], add(function.frame, sums.back[function.first]));
+        raise(&mut sizes[PRE], add(counted(function.frame), sums.back[function.first]));
         // "Through(f): the Through of all nodes, for each open path from first node to exit."
         if let Some(sum) = sums.across[function.exit] {
             raise(&mut sizes[THROUGH], sum);

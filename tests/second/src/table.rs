@@ -18,6 +18,7 @@ pub struct Function {
     pub entry: bool,
     pub first: usize,
     pub exit: usize,
+    /// As it stands in the table. Rules go by what it counts as.
     pub frame: u32,
 }
 

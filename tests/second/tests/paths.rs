@@ -66,6 +66,12 @@ fn through(table: &Table, nodes: &[usize]) -> u32 {
     nodes.iter().fold(0, |sum, &n| add(sum, table.nodes[n][THROUGH]))
 }
 
+/// "A frame counts as its bytes rounded up to a multiple of 16 [..] Frames of 65,521 and more are unbounded by that."
+fn counted(frame: u32) -> u32 {
+    let is_between = frame % 16 > 0;
+    add(16 * (frame / 16 + is_between as u32), 0)
+}
+
 /// What the rules ask for on a table, one path at a time.
 fn asked(program: &Program, choice: &[u8], open_paths: &[Path], table: &Table) -> Table {
     let mut next = Table::zero(program);
@@ -95,21 +101,22 @@ fn asked_on(program: &Program, path: &Path, table: &Table, next: &mut Table) {
     let last = nodes.len() - 1;
     let f = program.nodes[nodes[0]].owner;
     let function = &program.functions[f];
+    let frame = counted(function.frame);
     let more = if path.grows(table, 0, last) { UNBOUNDED } else { 0 };
     let mut raise = |size: usize, x: u32| next.functions[f][size] = add(x, more).max(next.functions[f][size]);
     let (head, tail) = (table.nodes[nodes[0]], table.nodes[nodes[last]]);
     if last == 0 {
-        raise(TOTAL, add(function.frame, head[TOTAL]));
+        raise(TOTAL, add(frame, head[TOTAL]));
     } else {
         let sum = add(add(head[POST], through(table, &nodes[1..last])), tail[PRE]);
-        raise(TOTAL, add(function.frame, sum));
+        raise(TOTAL, add(frame, sum));
     }
     if nodes[last] == function.exit {
         raise(POST, add(head[POST], through(table, &nodes[1..])));
     }
     if nodes[0] == function.first {
         let sum = add(through(table, &nodes[..last]), tail[PRE]);
-        raise(PRE, add(function.frame, sum));
+        raise(PRE, add(frame, sum));
     }
     if nodes[0] == function.first && nodes[last] == function.exit {
         raise(THROUGH, through(table, nodes));

@@ -191,7 +191,7 @@ fn sums() {
     assert_eq!(add(UNBOUNDED, UNBOUNDED), UNBOUNDED);
 }
 
-/// F with frame 4: Total and Pre go up by 4 in every second round and are unbounded after 16,384 steps.
+/// F with frame 4: Total and Pre go up by 16 in every second round and are unbounded after 4,096 steps.
 #[test]
 fn rounds_are_counted() {
     let program = check(&case_f()).unwrap();
@@ -199,8 +199,8 @@ fn rounds_are_counted() {
     let found = least(&program, &set, &[0, 0, 0]);
     assert_eq!(found.table.functions[0], [UNBOUNDED, 0, UNBOUNDED, 0]);
     assert_eq!(found.table.nodes[1], [UNBOUNDED, 0, UNBOUNDED, 0]);
-    // Function in rounds 1, 3, 5, .., 32,767; the call one round later; one round that raises nothing.
-    assert_eq!(found.rounds, 32_769);
+    // Function in rounds 1, 3, 5, .., 8,191; the call one round later; one round that raises nothing.
+    assert_eq!(found.rounds, 8_193);
 }
 
 #[test]

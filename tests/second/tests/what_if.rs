@@ -7,40 +7,42 @@ use second::safety::one_choice;
 use second::sizes::UNBOUNDED;
 use second::what_if::what_if;
 
-/// Total of function 0 is 40 and the larger Total of its two spawns, Post is that of the second, and Pre is 40 and that
-/// of the first. Nothing is unbounded, and nothing is left behind a spawned function.
+/// The frames of 40, 24 and 100 count as 48, 32 and 112. Total of function 0 is 48 and the larger Total of its two
+/// spawns, Post is that of the second, and Pre is 48 and that of the first. Nothing is unbounded, and nothing is left
+/// behind a spawned function.
 #[test]
 fn three_choices_of_case_a() {
     let choices = [0, 1, 0, 1, 0, 0, 0, 0, 2, 0, 2, 0, 0, 0, 0, 3, 0, 1, 0, 0, 0];
     let (bits, sizes) = what_if(&case_a(), 3, &choices, 120).unwrap();
     assert_eq!(bits, 7);
-    let leaves = [[24, 0, 24, 0], [100, 0, 100, 0]];
+    let leaves = [[32, 0, 32, 0], [112, 0, 112, 0]];
     let none = [0; 4];
     let sets = [
-        [[40, 0, 40, 0], leaves[0], leaves[1], none, none, none, none, none, none, none],
-        [[140, 100, 40, 0], leaves[0], leaves[1], none, [24, 24, 0, 0], none, [100, 100, 0, 0], none, none, none],
-        [[64, 0, 64, 0], leaves[0], leaves[1], none, [24; 4], none, none, none, none, none],
+        [[48, 0, 48, 0], leaves[0], leaves[1], none, none, none, none, none, none, none],
+        [[160, 112, 48, 0], leaves[0], leaves[1], none, [32, 32, 0, 0], none, [112, 112, 0, 0], none, none, none],
+        [[80, 0, 80, 0], leaves[0], leaves[1], none, [32; 4], none, none, none, none, none],
     ];
     assert_eq!(sizes, sets.concat().concat());
 }
 
-/// The spawn in C's loop: unmerged, unguarded and guarded. Unguarded, each turn adds 10 to what is left of the last
-/// ones, and to what the next ones need.
+/// The spawn in C's loop: unmerged, unguarded and guarded. Unguarded, each turn adds 16, which the leaf's frame of 10
+/// counts as, to what is left of the last ones, and to what the next ones need.
 #[test]
 fn three_choices_of_case_c() {
     let choices = [0, 1, 0, 0, 0, 3, 0, 0, 0, 2, 0, 0];
     let (bits, sizes) = what_if(&case_c_or_d(10), 3, &choices, 100).unwrap();
     assert_eq!(bits, 0b101);
-    let (leaf, none) = ([10, 0, 10, 0], [0; 4]);
+    let (leaf, none) = ([16, 0, 16, 0], [0; 4]);
     let sets = [
         [[16, 0, 16, 0], leaf, none, none, none, none],
-        [[UNBOUNDED; 4], leaf, none, [10; 4], none, none],
-        [[26, 10, 16, 0], leaf, none, [10, 10, 0, 0], none, none],
+        [[UNBOUNDED; 4], leaf, none, [16; 4], none, none],
+        [[32, 16, 16, 0], leaf, none, [16, 16, 0, 0], none, none],
     ];
     assert_eq!(sizes, sets.concat().concat());
 }
 
-/// All nine. The inner spawn merged leaves 4 behind function 1, which is spawned, whatever becomes of the outer one.
+/// All nine. The frames of 4 count as 16. The inner spawn merged leaves 16 behind function 1, which is spawned, whatever
+/// becomes of the outer one.
 #[test]
 fn all_choices_of_case_e() {
     let mut choices = Vec::new();
@@ -51,10 +53,10 @@ fn all_choices_of_case_e() {
     }
     let (bits, sizes) = what_if(&case_e(), 9, &choices, 9 * 40).unwrap();
     assert_eq!(bits, 0b111);
-    // On the stack of function 0: its own 4; with the outer spawn unguarded function 1's too; with both all three.
-    assert_eq!(sizes[..4], [4, 0, 4, 0]);
-    assert_eq!(sizes[2 * 40..2 * 40 + 4], [8, 4, 8, 4]);
-    assert_eq!(sizes[8 * 40..8 * 40 + 8], [12, 8, 12, 8, 8, 4, 8, 4]);
+    // On the stack of function 0: its own 16; with the outer spawn unguarded function 1's too; with both all three.
+    assert_eq!(sizes[..4], [16, 0, 16, 0]);
+    assert_eq!(sizes[2 * 40..2 * 40 + 4], [32, 16, 32, 16]);
+    assert_eq!(sizes[8 * 40..8 * 40 + 8], [48, 32, 48, 32, 32, 16, 32, 16]);
 }
 
 /// "up to 16 choices": the last one has bit 15.

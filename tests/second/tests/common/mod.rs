@@ -98,9 +98,14 @@ pub fn case_f() -> Vec<u8> {
 
 /// "frame 0 calling (plain, call, plain in a line) frame 65,535", or another frame calling it.
 pub fn case_h(frame: usize) -> Vec<u8> {
+    calling(frame, 65_535)
+}
+
+/// The same with another frame that is called.
+pub fn calling(frame: usize, called: usize) -> Vec<u8> {
     table(&[
         [1, 1, 0, 2, frame],
-        [1, 0, 3, 3, 65_535],
+        [1, 0, 3, 3, called],
         [2, 0, 0, 0, 0],
         [2, 1, 0, 1, 0],
         [2, 0, 0, 0, 0],
