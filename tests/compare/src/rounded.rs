@@ -1,34 +1,15 @@
 //! What the frames of a table show of the multiples of 16 that they count as.
 
-use second::choice::depths;
 use second::sizes::counted;
-use second::table::{Program, Sort};
-use std::cmp::Reverse;
+use second::table::Program;
 use std::ops::RangeInclusive;
 
 /// The largest number of bytes that a size comes to.
 const MOST: u32 = 65_520;
 
-fn spawns(program: &Program) -> impl Iterator<Item = usize> + '_ {
-    (0..program.nodes.len()).filter(|&n| program.nodes[n].sort == Sort::Spawn)
-}
-
-/// The frame of the function that a spawn has as its target.
-fn spawned(program: &Program, spawn: usize) -> u32 {
-    program.functions[program.nodes[spawn].target].frame
-}
-
-/// The preference order if frames were compared byte for byte.
-pub fn order_by_bytes(program: &Program) -> Vec<usize> {
-    let depths = depths(program);
-    let mut order: Vec<usize> = spawns(program).collect();
-    order.sort_by_key(|&s| (Reverse(depths[program.nodes[s].owner]), Reverse(spawned(program, s)), s));
-    order
-}
-
-/// Whether the frames of two spawned functions differ and count the same.
-pub fn has_equal_frames(program: &Program) -> bool {
-    let frames: Vec<u32> = spawns(program).map(|s| spawned(program, s)).collect();
+/// Whether the frames of two functions that these spawns have as their targets differ and count the same.
+pub fn has_equal_frames(program: &Program, spawns: &[usize]) -> bool {
+    let frames: Vec<u32> = spawns.iter().map(|&s| program.functions[program.nodes[s].target].frame).collect();
     frames.iter().any(|&x| frames.iter().any(|&y| x != y && counted(x) == counted(y)))
 }
 
@@ -45,7 +26,6 @@ pub fn adds_up_to_most(program: &Program, sizes: &[u32]) -> bool {
 #[cfg(test)]
 mod tests {
     use super::*;
-    use second::choice::order;
     use second::random::record;
     use second::table::check;
 
@@ -61,23 +41,15 @@ mod tests {
     }
 
     #[test]
-    fn orders() {
-        let of = |frames: &[usize]| [order(&program(frames)), order_by_bytes(&program(frames))];
-        assert_eq!(of(&[1, 16]), [[1, 2], [2, 1]]);
-        assert_eq!(of(&[16, 1]), [[1, 2], [1, 2]]);
-        assert_eq!(of(&[16, 17]), [[2, 1], [2, 1]]);
-        assert_eq!(of(&[65_521, 0, 65_535]), [[1, 3, 2], [3, 1, 2]]);
-    }
-
-    #[test]
     fn frames() {
         for (frames, are_equal) in
             [(&[1, 16][..], true), (&[7, 65_535, 65_521], true), (&[16, 17], false), (&[8, 8], false), (&[0, 1], false)]
         {
-            assert_eq!(has_equal_frames(&program(frames)), are_equal, "{frames:?}");
+            let spawns: Vec<usize> = (1..=frames.len()).collect();
+            assert_eq!(has_equal_frames(&program(frames), &spawns), are_equal, "{frames:?}");
         }
         // The entry isn't spawned.
-        assert!(!has_equal_frames(&program(&[48])) && has_frame(&program(&[48]), 40..=40));
+        assert!(!has_equal_frames(&program(&[48]), &[1]) && has_frame(&program(&[48]), 40..=40));
         assert!(has_frame(&program(&[48]), 48..=49) && !has_frame(&program(&[48]), 41..=47));
     }
 

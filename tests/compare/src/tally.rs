@@ -5,10 +5,10 @@ use crate::edges::{Edges, EDGES};
 use crate::input::{Input, BEHIND, KINDS};
 use crate::list::{List, MOST};
 use crate::order::{has_ring_apart, longest_way_back, most_in_turn, with_spawns};
-use crate::rounded::{adds_up_to_most, has_equal_frames, has_frame, order_by_bytes};
+use crate::rounded::{adds_up_to_most, has_equal_frames, has_frame};
 use crate::shown::{Shown, SHOWN};
 use second::call_order::{call_order, reaching};
-use second::choice::{depths, greedy_in, order};
+use second::choice::{depths, greedy_in, order, order_by};
 use second::sizes::numbers_needed;
 use second::table::{check, Program, Sort};
 use std::cmp::Ordering;
@@ -226,9 +226,9 @@ impl Tally {
     }
 
     fn add_frames(&mut self, program: &Program, order: &[usize], answers: &Calls) {
-        let by_bytes = order_by_bytes(program);
+        let by_bytes = order_by(program, |bytes| bytes);
         let is_other = by_bytes != order;
-        self.see(Seen::EqualFrames, has_equal_frames(program) as usize);
+        self.see(Seen::EqualFrames, has_equal_frames(program, order) as usize);
         self.see(Seen::OtherByBytes, is_other as usize);
         self.see(Seen::SmallFrame, has_frame(program, 1..=17) as usize);
         self.see(Seen::LastBounded, has_frame(program, 65_505..=65_520) as usize);

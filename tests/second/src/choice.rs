@@ -35,6 +35,11 @@ pub fn depths(program: &Program) -> Vec<usize> {
 /// spawned function, and then by the smaller node number"; frames are "rounded frames, and the order of Ask 2 compares
 /// those too".
 pub fn order(program: &Program) -> Vec<usize> {
+    order_by(program, counted)
+}
+
+/// The same with frames that count as something else, so that tests see where it matters what they count as.
+pub fn order_by(program: &Program, counted: impl Fn(u32) -> u32) -> Vec<usize> {
     let depths = depths(program);
     let mut spawns: Vec<usize> = (0..program.nodes.len()).filter(|&n| program.nodes[n].sort == Sort::Spawn).collect();
     spawns.sort_by_key(|&n| {

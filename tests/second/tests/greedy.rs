@@ -1,28 +1,8 @@
 //! The walk against all choices, on small random tables.
 
-use second::choice::{depths, greedy, greedy_in, order, unbeaten};
+use second::choice::{depths, greedy, greedy_in, order, order_by, unbeaten};
 use second::random::{self, Frames, Random, Shape};
-use second::table::{check, Program, Sort};
-use std::cmp::Reverse;
-
-/// The spawns by their depths and numbers alone.
-fn order_by_numbers(program: &Program) -> Vec<usize> {
-    let depths = depths(program);
-    let mut spawns = order(program);
-    spawns.sort_by_key(|&n| (Reverse(depths[program.nodes[n].owner]), n));
-    spawns
-}
-
-/// The spawns as if frames counted byte for byte.
-fn order_by_bytes(program: &Program) -> Vec<usize> {
-    let depths = depths(program);
-    let mut spawns = order_by_numbers(program);
-    spawns.sort_by_key(|&n| {
-        let node = &program.nodes[n];
-        (Reverse(depths[node.owner]), Reverse(program.functions[node.target].frame), n)
-    });
-    spawns
-}
+use second::table::{check, Sort};
 
 /// Returns in how many of the tables it matters that frames are compared, and in how many that they are rounded.
 fn compare(seed: u64, tables: usize, table: impl Fn(&mut Random) -> Vec<u8>) -> (usize, usize) {
@@ -38,8 +18,8 @@ fn compare(seed: u64, tables: usize, table: impl Fn(&mut Random) -> Vec<u8>) -> 
         mixed += spawns.iter().any(|&s| found[s] != found[spawns[0]]) as usize;
         let backward: Vec<usize> = spawns.iter().rev().copied().collect();
         ordered += (greedy_in(&program, &backward) != found) as usize;
-        framed += (greedy_in(&program, &order_by_numbers(&program)) != found) as usize;
-        rounded += (greedy_in(&program, &order_by_bytes(&program)) != found) as usize;
+        framed += (greedy_in(&program, &order_by(&program, |_| 0)) != found) as usize;
+        rounded += (greedy_in(&program, &order_by(&program, |bytes| bytes)) != found) as usize;
     }
     println!("{tables} tables, {mixed} with different bytes, {ordered} where the order matters");
     println!("{framed} by frames, {rounded} by their rounding");

@@ -3,10 +3,10 @@
 mod common;
 
 use common::*;
-use second::choice::{best, order, unmerged};
+use second::choice::{best, order, order_by, unmerged};
 use second::safety::one_choice;
 use second::sizes::{counted, UNBOUNDED};
-use second::table::check;
+use second::table::{check, Program};
 
 /// "A frame counts as its bytes rounded up to a multiple of 16 [..] Frames of 65,521 and more are unbounded by that."
 #[test]
@@ -121,14 +121,18 @@ fn a_byte_more_takes_a_merge_away() {
     }
 }
 
-/// The order of spawns in nodes 1, 2, 3, .. of an entry, of leaves with these frames.
-fn order_of(frames: &[usize]) -> Vec<usize> {
+/// An entry that spawns leaves with these frames, in nodes 1, 2, 3, ..
+fn spawning(frames: &[usize]) -> Program {
     let mut records = vec![[1, 1, 0, 0, 40]];
     records.extend((0..frames.len()).map(|i| [1, 0, frames.len() + 1 + i, frames.len() + 1 + i, frames[i]]));
     records.push([2, 0, 0, 0, 0]);
     records.extend((0..frames.len()).map(|i| [2, 2, 0, i + 1, 0]));
     records.extend((0..frames.len()).map(|i| [2, 0, i + 1, 0, 0]));
-    order(&check(&table(&records)).unwrap())
+    check(&table(&records)).unwrap()
+}
+
+fn order_of(frames: &[usize]) -> Vec<usize> {
+    order(&spawning(frames))
 }
 
 /// "The order of Ask 2 compares those too": frames that count the same are equal, and the smaller number goes first.
@@ -145,4 +149,12 @@ fn equal_frames_in_the_order() {
     // 6 and 7 are unbounded; 5 and 8 count as 65,520, 3 and 10 as 32, 1, 2 and 4 as 16, and 9 as 0.
     let frames = [1, 16, 17, 15, 65_505, 65_521, 65_535, 65_520, 0, 32];
     assert_eq!(order_of(&frames), [6, 7, 5, 8, 3, 10, 1, 2, 4, 9]);
+}
+
+/// By their bytes, as tests take them to see where it matters.
+#[test]
+fn order_by_bytes() {
+    let of = |frames: &[usize]| order_by(&spawning(frames), |bytes| bytes);
+    assert_eq!((of(&[1, 16]), of(&[16, 1]), of(&[16, 17])), (vec![2, 1], vec![1, 2], vec![2, 1]));
+    assert_eq!(of(&[65_521, 0, 65_535]), [3, 1, 2]);
 }
