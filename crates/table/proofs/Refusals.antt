@@ -11,7 +11,7 @@ use Prim.Native.Nat.{ℕ, ◌<◌}
 use Rattle.table.specs.Refusal.{Check, Refusal, of_whole, of_each, over, refused_at, refusal}
 use Rattle.table.proofs.Below.{earliest_passed}
 
-not_applied : (b : Bool) (p : ℕ) → cond b (Some p) None ≡ None → b ≡ false
+pub not_applied : (b : Bool) (p : ℕ) → cond b (Some p) None ≡ None → b ≡ false
 not_applied true p e = absurd (some_not_none p e)
 not_applied false p e = refl
 

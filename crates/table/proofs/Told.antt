@@ -5,7 +5,7 @@ use mathlib.Core.Bool.{Bool, true, false, not, ◌||◌}
 use mathlib.Core.List.{List, [], ◌∷◌, map}
 use lib.Dec.{eqb}
 use lib.ListN.{drop, length, get_or}
-use Rattle.std.proofs.Common.{add-one, drop-cons}
+use Rattle.std.proofs.Common.{add-one, drop-cons, arith, ne_eqb}
 use Rattle.std.proofs.lemmas.List.{drop_all}
 use Rattle.std.specs.Prelude.{Option, None, Some, is_some, ◌%◌, ◌/◌, cond}
 use Rattle.std.specs.Bool.{then_some}
@@ -76,6 +76,10 @@ module _ (t : List ℕ) (rows : List Cause) (i : ℕ) (d : Cause) (past : Past t
   pub stopped : (p : ℕ) → Some p ≡ place_for (get_or rows i d) t → refused (number_of (get_or rows i d)) p ≡ free_outcome t
   unfolding free_outcome outcome_for
   stopped p told = rw (at_row, refusal_here t (row (get_or rows i d)) (map row (drop (i + 1) rows)) (sym told)) refl
+
+-- the first row, where it is told before the others are looked at
+pub broken_stops : (t : List ℕ) → (length t % 8 ≡ 0 → ⊥) → refused 1 (length t / 8) ≡ free_outcome t
+broken_stops t e = stopped t _ 0 Length (none_yet t) (omega arith) _ (length_told t (rw (ne_eqb (length t % 8) 0 e) refl))
 
 refusal_nil : (t : List ℕ) → refusal {X = List ℕ} [] t ≡ None
 unfolding refusal

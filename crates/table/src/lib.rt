@@ -38,6 +38,13 @@ const ROWS: [Cause; 8] = [
 pub fn check_free(t: &[u8]) -> Result<Counts, Refused>
     ensures { outcome_of result ≡ free_outcome t.now }
 {
+    // Before the records are counted: this refusal takes no longer for a longer input.
+    if t.len() % 8 != 0 {
+        return Err(Refused {
+            cause: Cause::Length,
+            place: t.len() / 8,
+        });
+    }
     let of = tally(t);
     let counted = Counted { t, of };
     for cause in ROWS {

@@ -1,5 +1,8 @@
-use Rattle.table.proofs.Told.{none_yet, passed, stopped, all_passed}
+use Rattle.table.proofs.Told.{none_yet, passed, stopped, all_passed, broken_stops}
 use Rattle.table.proofs.check_free.Goals as goal
+
+pub returns-then-t-ne0 : goal.returns-then-t-ne0
+returns-then-t-ne0 c = broken_stops _ c.if-t-ne0.true
 
 pub loop-cause-init : goal.loop-cause-init
 loop-cause-init c = none_yet _
