@@ -1,6 +1,6 @@
 // Causes: for each entry, the entry of its rule that made it rise last. An entry that would rise because of itself is
 // unbounded, at once. Entries are numbers: sizes, and then sums.
-ghost use Rattle.std.specs.Prelude.{◌≡◌, ◌⊎◌, ℕ, ◌<◌, IsTrue};
+ghost use Rattle.std.specs.Prelude.{◌≡◌, ◌⊎◌, ℕ, ◌+◌, ◌<◌, min, IsTrue};
 ghost use Rattle.size.specs.Size.{value_of};
 ghost use Rattle.solver.specs.Causes.{uncaused, Chain, Risen};
 ghost use Rattle.solver.specs.Rounds.{cause_at};
@@ -112,7 +112,8 @@ impl Causes {
     #[cold]
     pub(crate) fn rise(&mut self, x: usize, y: usize, z: usize, sum: Size) -> Size
         requires { (x < 3840) × (y < 3840) × (z < 3840) }
-        ensures { Risen (cause_at self.old) x y z (value_of sum) (cause_at self.new) (value_of result) }
+        ensures risen { Risen (cause_at self.old) x y z (value_of sum) (cause_at self.new) (value_of result) }
+        ensures clock { self.new.clock ≡ min (self.old.clock + 1) 65535 }
     {
         self.clock = self.clock.saturating_add(1);
         if self.is_due(x) && self.caused(x, y, z) {

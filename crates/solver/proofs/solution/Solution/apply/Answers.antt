@@ -9,5 +9,5 @@ returns-then-from c = held (omega (arith, c.sum-sum.ensures, c.get-old.ensures, 
 pub returns : goal.returns
 returns c =
     rose _ (omega (arith, c.sum-sum.ensures, c.get-old.ensures, c.from.ensures, c.from-2.ensures))
-    (rw (c.sum-sum.ensures, c.unwrap_or-second.ensures) at c.rise-new.ensures)
+    (rw (c.sum-sum.ensures, c.unwrap_or-second.ensures) at c.rise-new.ensures.risen)
     c.put.ensures
