@@ -1,6 +1,6 @@
 -- For the crate above: the choice that a walk starts from.
 pub mod Laws
 -- How the promises come about.
-mod Mapping
+mod Keeping
 mod Starting
 mod Walking

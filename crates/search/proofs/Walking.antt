@@ -1,12 +1,11 @@
 -- One spawn more on a walk: what becomes of its verdict.
-use Rattle.std.proofs.Common.{◌≡◌, ℕ, suc, ◌+◌, ◌-◌, ◌<◌, ◌≤◌, Bool, true, false, cond, ◌⊎◌, List, length, map, set, sym, refl, ap, ◌∙◌, inl, inr, ⊎_elim, eq-or-lt_of_le, arith, get_or-set_other, length-set, get_or-set_same, eq-eqb, ne_eqb, eqb, eqb-true}
+use Rattle.std.proofs.Common.{◌≡◌, ℕ, suc, ◌+◌, ◌-◌, ◌<◌, ◌≤◌, Bool, true, false, cond, ◌⊎◌, List, length, set, sym, refl, ap, ◌∙◌, inl, inr, ⊎_elim, eq-or-lt_of_le, arith, get_or-set_other, length-set, get_or-set_same, eq-eqb, ne_eqb, eqb, eqb-true}
 use Rattle.std.proofs.lemmas.Bool.{eqb-false}
 use native.Mathlib.Decide.{ℕ_discrete}
-use Rattle.std.proofs.lemmas.List.{get_or-map}
 use Rattle.table.specs.Record.{spawn}
 use Rattle.table.specs.Program.{Program}
 use Rattle.table.proofs.Laws.{well_formed}
-use Rattle.size.specs.Numbers.{at}
+use Rattle.size.specs.Numbers.{at, Written}
 use Rattle.rules.specs.Choice.{AtMost, guarded}
 use Rattle.sizes.specs.Call.{choice_of}
 use Rattle.sizes.specs.Trials.{known_program, PreparedFor, StartsFor, Holds}
@@ -93,10 +92,6 @@ module _ (g : Program) (k : ℕ) (order from : ℕ → ℕ) where
 
 -- ---- trials
 
--- raised verdicts, by node
-pub raised_at : (k : ℕ) (old : List ℕ) (n : ℕ) → n < length old → choice_of (map (raised_to k) old) n ≡ raised_to k (choice_of old n)
-raised_at k old n h = get_or-map (raised_to k) old n 0 0 h
-
 few : (p : Prepared) → (known_program p.known).nodes ≤ 512
 few p =
     let q = p.known.program in
@@ -112,21 +107,26 @@ module _ {p : Prepared} where
       go m (no e) = omega (arith, get_or-set_other old n m k 0 e)
 
   -- and with all raised that wait
-  pub starts_all : (old : List ℕ) {s : List ℕ} (k : ℕ) → 1 ≤ k → (known_program p.known).nodes ≤ length old → Holds p (choice_of old) s → StartsFor p (choice_of (map (raised_to k) old)) s
-  starts_all old k h f z = holds_start (λ n b. go n b (ℕ_discrete (choice_of old n) (k - 1))) z
+  pub starts_all : (old : List ℕ) {first new s : List ℕ} (k : ℕ) → 1 ≤ k → Written (known_program p.known).nodes (λ n. raised_to k (choice_of old n)) first new → Holds p (choice_of old) s → StartsFor p (choice_of new) s
+  starts_all old {first} {new} k h w z = holds_start (λ n b. go n b (ℕ_discrete (choice_of old n) (k - 1))) z
     where
-      go : (n : ℕ) → n < (known_program p.known).nodes → Dec (choice_of old n ≡ k - 1) → choice_of old n ≤ choice_of (map (raised_to k) old) n
+      go : (n : ℕ) → n < (known_program p.known).nodes → Dec (choice_of old n ≡ k - 1) → choice_of old n ≤ choice_of new n
       go n b (yes q) =
           let r : raised_to k (choice_of old n) ≡ k = rw (eq-eqb (choice_of old n) (k - 1) q) refl in
-          omega (arith, raised_at k old n (omega arith), r)
+          omega (arith, w.written n b, r)
       go n b (no q) =
           let r : raised_to k (choice_of old n) ≡ choice_of old n = rw (ne_eqb (choice_of old n) (k - 1) q) refl in
-          omega (arith, raised_at k old n (omega arith), r)
+          omega (arith, w.written n b, r)
 
   -- whether a trial is adopted or not, the numbers are the sizes of the choice that there is then
   pub tried_holds : (old choice : List ℕ) {new s t : List ℕ} {r : Bool} → Tried p (choice_of choice) s t r → new ≡ cond r choice old → Holds p (choice_of old) s → Holds p (choice_of new) t
   tried_holds old choice (adopted y x z) e h = rw (e, y) z
   tried_holds old choice (rejected y x q) e h = rw (e, y, q) h
+
+  -- one that is adopted leaves the choice that was tried
+  pub tried_taken : (old choice : List ℕ) {new s t : List ℕ} {r : Bool} → Tried p (choice_of choice) s t r → new ≡ cond r choice old → r ≡ true → (new ≡ choice) × Safe (known_program p.known) (choice_of new) × Holds p (choice_of new) t
+  tried_taken old choice (adopted y x z) e h = rw (e, y) (refl, x, z)
+  tried_taken old choice (rejected y x q) e h = cc
 
 -- ---- the walk comes to the next node of the order, among the spawns that the code goes over
 
@@ -186,25 +186,21 @@ merged_others {g} {count} {order} {to} o m n h other = go (m.walked.moved n h)
     go (inr (a, b, (j, l, e))) = absurd (other (ap g.sort (sym e) ∙ (o.spawns j l).spawns))
 
 -- all that waited were raised at once, and each of them is a spawn, since it had a verdict
-module _ {g : Program} {count : ℕ} {order : ℕ → ℕ} (o : InOrder g count order) (k : ℕ) (above : 2 ≤ k) (old : List ℕ) (fits : g.nodes ≤ length old) (others : OthersZero g (choice_of old)) where
-  walked_all : Safe g (choice_of (map (raised_to k) old)) → Walked g k count order (choice_of old) (choice_of (map (raised_to k) old))
-  walked_all safe = record {
+module _ {g : Program} {count : ℕ} {order : ℕ → ℕ} (o : InOrder g count order) (k : ℕ) (above : 2 ≤ k) (old : List ℕ) {first new : List ℕ} (w : Written g.nodes (λ n. raised_to k (choice_of old n)) first new) (others : OthersZero g (choice_of old)) where
+  pub walked_at_once : Safe g (choice_of new) → Walked g k count order (choice_of old) (choice_of new)
+  walked_at_once safe = record {
     safe = safe;
     moved = λ n h. moved n h (ℕ_discrete (choice_of old n) (k - 1));
     blocked = λ j l a b. let e = waited (order j) (o.spawns j l).exists (omega (arith, a)) in absurd (omega (arith, b, e));
   }
     where
-      waited : (n : ℕ) → n < g.nodes → choice_of old n ≡ k - 1 → choice_of (map (raised_to k) old) n ≡ k
-      waited n h q = raised_at k old n (omega arith) ∙ rw (eq-eqb (choice_of old n) (k - 1) q) refl
+      waited : (n : ℕ) → n < g.nodes → choice_of old n ≡ k - 1 → choice_of new n ≡ k
+      waited n h q = w.written n h ∙ rw (eq-eqb (choice_of old n) (k - 1) q) refl
 
       placed : (n : ℕ) → n < g.nodes → choice_of old n ≡ k - 1 → Dec (g.sort n ≡ spawn) → (j : ℕ) × (j < count) × (order j ≡ n)
       placed n h q (yes e) = o.all n (record { exists = h; spawns = e })
       placed n h q (no d) = absurd (omega (arith, others n h d))
 
-      moved : (n : ℕ) → n < g.nodes → Dec (choice_of old n ≡ k - 1) → Moved g k order (choice_of old) count (choice_of (map (raised_to k) old)) n
+      moved : (n : ℕ) → n < g.nodes → Dec (choice_of old n ≡ k - 1) → Moved g k order (choice_of old) count (choice_of new) n
       moved n h (yes q) = inr (omega arith, waited n h q, placed n h q (ℕ_discrete (g.sort n) spawn))
-      moved n h (no q) = inl (raised_at k old n (omega arith) ∙ rw (ne_eqb (choice_of old n) (k - 1) q) refl)
-
-  -- as a trial of all tells it
-  pub walked_at_once : {new : List ℕ} → new ≡ map (raised_to k) old → Safe g (choice_of new) → Walked g k count order (choice_of old) (choice_of new)
-  walked_at_once e safe = rw e (walked_all (rw e at safe))
+      moved n h (no q) = inl (w.written n h ∙ rw (ne_eqb (choice_of old n) (k - 1) q) refl)

@@ -1,7 +1,8 @@
 -- The two walks of the search for the best choice. Helps proofs only.
-use Rattle.std.specs.Prelude.{◌≡◌, ℕ, suc, ◌-◌, ◌<◌, ◌≤◌, cond, ◌⊎◌, ◌==◌, ◌≢◌, replicate}
+use Rattle.std.specs.Prelude.{◌≡◌, ℕ, suc, ◌-◌, ◌<◌, ◌≤◌, cond, ◌⊎◌, ◌==◌, ◌≢◌, List, replicate}
 use Rattle.table.specs.Record.{spawn}
 use Rattle.table.specs.Program.{Program}
+use Rattle.size.specs.Numbers.{Written}
 use Rattle.rules.specs.Choice.{unmerged, guarded, unguarded}
 use Rattle.sizes.specs.Call.{choice_of}
 use Rattle.sizes.specs.Trials.{known_program, Holds}
@@ -26,6 +27,10 @@ Starts g found = Unmerged g (choice_of found.verdicts) × (found.sizes ≡ repli
 -- the verdict k for the one below it, and every other as it is
 abbrev pub raised_to : ℕ → ℕ → ℕ
 raised_to k verdict = cond (verdict == k - 1) k verdict
+
+-- the verdicts of all nodes so raised, and the bytes past them as they were
+abbrev pub Raised : Program → ℕ → List ℕ → List ℕ → Type 0
+Raised g k old new = Written g.nodes (λ n. raised_to k (choice_of old n)) old new
 
 -- A walk that has gone over the first i spawns of the order: each that had one less has verdict k, or no safe choice that does for those
 -- before it what the walk did gives it k.

@@ -1,6 +1,7 @@
 // A choice with its sizes, as far as a search has come.
 ghost use Rattle.std.specs.Prelude.{◌≡◌, replicate};
 ghost use Rattle.table.specs.Program.{program_of};
+ghost use Rattle.size.specs.Numbers.{Written};
 ghost use Rattle.sizes.specs.Call.{choice_of};
 ghost use Rattle.search.specs.Walk.{Unmerged};
 
@@ -18,19 +19,29 @@ pub struct Found {
     pub work: Work,
 }
 
+// Unmerges the verdicts of the nodes. The bytes past them stay.
+#[tactic(auto, using(crate::proofs::Starting::started_none, crate::proofs::Starting::started_spawn, crate::proofs::Starting::started_other, crate::proofs::Starting::started_all, crate::proofs::Keeping::written_as))]
+pub(crate) fn unmerge(program: &Program<'_>, verdicts: &mut [u8; 512])
+    ensures unmerged { Unmerged (program_of program.now.table.now) (choice_of verdicts.new) }
+    ensures written { Written (program_of program.now.table.now).nodes (choice_of verdicts.new) verdicts.old verdicts.new }
+{
+    for n in 0..program.of.nodes {
+        if program.is_spawn(n) {
+            verdicts[n] = u8::from(Verdict::Unmerged);
+        } else {
+            verdicts[n] = 0;
+        }
+    }
+}
+
 impl Found {
     // Unmerged everywhere, with zeros for its sizes.
-    #[tactic(auto, using(crate::proofs::Starting::started_spawn, crate::proofs::Starting::started_other, crate::proofs::Starting::started_all))]
     pub fn unmerged(program: &Program<'_>) -> Found
         ensures unmerged { Unmerged (program_of program.now.table.now) (choice_of result.verdicts) }
         ensures zeros { result.sizes ≡ replicate 2304 0 }
     {
         let mut verdicts = [0; 512];
-        for n in 0..program.of.nodes {
-            if program.is_spawn(n) {
-                verdicts[n] = u8::from(Verdict::Unmerged);
-            }
-        }
+        unmerge(program, &mut verdicts);
         Found {
             verdicts,
             sizes: [0; 2304],

@@ -1,13 +1,13 @@
 // The two walks over the spawns, in the preference order. A walk has one verdict, which stands beside the problem and not in it: both walks are of one
 // problem.
-ghost use Rattle.std.specs.Prelude.{◌≡◌, ◌≤◌, length, replicate};
-ghost use Rattle.size.specs.Numbers.{at};
+ghost use Rattle.std.specs.Prelude.{◌≤◌, length};
+ghost use Rattle.size.specs.Numbers.{at, Written};
 ghost use Rattle.sizes.specs.Call.{choice_of};
 ghost use Rattle.sizes.specs.Trials.{Holds};
 ghost use Rattle.safety.specs.Safety.{Safe};
 ghost use Rattle.search.specs.Verdict.{level};
 ghost use Rattle.search.specs.Problem.{program_in, WellPosed};
-ghost use Rattle.search.specs.Walk.{Unmerged, OthersZero, Walked, Merged};
+ghost use Rattle.search.specs.Walk.{Starts, OthersZero, Walked, Merged};
 
 use crate::Found;
 use crate::problem::Problem;
@@ -20,13 +20,14 @@ impl Found {
         requires safe { Safe (program_in problem.now) (choice_of self.old.verdicts) }
         requires holds { Holds problem.now.prepared.now (choice_of self.old.verdicts) self.old.sizes }
         ensures walked { Walked (program_in problem.now) (level verdict) (length problem.now.order.now) (at problem.now.order.now) (choice_of self.old.verdicts) (choice_of self.new.verdicts) }
+        ensures written { Written (program_in problem.now).nodes (choice_of self.new.verdicts) self.old.verdicts self.new.verdicts }
         ensures still_holds { Holds problem.now.prepared.now (choice_of self.new.verdicts) self.new.sizes }
     {
         for &n in problem.order {
             if verdict.is_next(self.verdicts[n]) {
                 let mut larger = self.verdicts;
                 larger[n] = u8::from(verdict);
-                self.attempt(problem.prepared, &larger);
+                self.attempt(problem.prepared, larger);
             }
         }
     }
@@ -38,6 +39,7 @@ impl Found {
         requires safe { Safe (program_in problem.now) (choice_of self.old.verdicts) × OthersZero (program_in problem.now) (choice_of self.old.verdicts) }
         requires holds { Holds problem.now.prepared.now (choice_of self.old.verdicts) self.old.sizes }
         ensures walked { Walked (program_in problem.now) (level verdict) (length problem.now.order.now) (at problem.now.order.now) (choice_of self.old.verdicts) (choice_of self.new.verdicts) }
+        ensures written { Written (program_in problem.now).nodes (choice_of self.new.verdicts) self.old.verdicts self.new.verdicts }
         ensures still_holds { Holds problem.now.prepared.now (choice_of self.new.verdicts) self.new.sizes }
     {
         if self.all_at_once(problem, verdict) {
@@ -49,9 +51,9 @@ impl Found {
     // The first walk, from unmerged everywhere. The sizes of that choice are found only where not all spawns can be merged at once.
     pub(crate) fn merge(&mut self, problem: &Problem<'_>)
         requires posed { WellPosed problem.now }
-        requires unmerged { Unmerged (program_in problem.now) (choice_of self.old.verdicts) }
-        requires zeros { self.old.sizes ≡ replicate 2304 0 }
+        requires starts { Starts (program_in problem.now) self.old }
         ensures merged { Merged (program_in problem.now) (length problem.now.order.now) (at problem.now.order.now) (choice_of self.new.verdicts) }
+        ensures written { Written (program_in problem.now).nodes (choice_of self.new.verdicts) self.old.verdicts self.new.verdicts }
         ensures holds { Holds problem.now.prepared.now (choice_of self.new.verdicts) self.new.sizes }
     {
         if self.all_at_once(problem, Verdict::Guarded) {

@@ -12,7 +12,7 @@ write-requires c =
 pub returns-clause-leaves : goal.returns-clause-leaves
 returns-clause-leaves c =
     let m = c.with_prepared.ensures in
-    let searched : Searched m.value.now m.left.now = m.called in
+    let searched : Searched m.value.now m.left.now = m.called.0 in
     let same = c.in_ok-known.ensures.known.table_is in
     let best = rw (m.fit.0, m.leaves, same) at (searched_best m.fit.1 searched) in
     best_leaves best (rw same at c.write.ensures.verdicts) (rw same at c.write.ensures.sizes)

@@ -1,13 +1,13 @@
 use Rattle.std.proofs.Common.{arith}
 use Rattle.preference.proofs.Firsts.{order_cut}
+use Rattle.search.proofs.Keeping.{written_twice}
 use Rattle.search.proofs.Walking.{merged_others}
 use Rattle.search.proofs.find.Goals as goal
 
 pub merge-requires : goal.merge-requires
 merge-requires c = record {
   posed = record { prepared_for = c.requires.0; in_order = order_cut _ c.in_order-order.ensures.in_order c.as_slice.ensures.value c.as_slice.ensures.len };
-  unmerged = c.requires.1.0;
-  zeros = c.requires.1.1;
+  starts = (c.unmerge.ensures.unmerged, c.requires.1);
 }
 
 pub walk-requires : goal.walk-requires
@@ -20,8 +20,8 @@ walk-requires c =
       holds = c.merge.ensures.holds;
     }
 
-pub returns : goal.returns
-returns c = record {
+pub returns-clause-searched : goal.returns-clause-searched
+returns-clause-searched c = record {
   count = _;
   order = _;
   middle = _;
@@ -30,3 +30,6 @@ returns c = record {
   walked = c.walk.ensures.walked;
   holds = c.walk.ensures.still_holds;
 }
+
+pub returns-clause-written : goal.returns-clause-written
+returns-clause-written c = written_twice (written_twice c.unmerge.ensures.written c.merge.ensures.written) c.walk.ensures.written
