@@ -1,0 +1,2 @@
+-- How the promises come about.
+pub mod Ends
