@@ -39,13 +39,12 @@ impl fmt::Display for Size {
     }
 }
 
-// Text in fixed memory, for a program to write at once, so that nothing fails before. What goes past it is left out: there is room for the longest name
-// in a script of 131,072 bytes, and behind it for the longest answer, 576 rows of at most 48 bytes.
+// Text in fixed memory of N bytes, for a program to write at once, so that nothing fails before. What goes past it is left out.
 #[derive(Drop)]
-pub struct Page(ArrayVec<u8, 163840>);
+pub struct Page<const N: usize>(ArrayVec<u8, N>);
 
-impl Page {
-    pub fn new() -> Page {
+impl<const N: usize> Page<N> {
+    pub fn new() -> Page<N> {
         Page(ArrayVec::new())
     }
 

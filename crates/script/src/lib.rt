@@ -36,6 +36,9 @@ use records::Records;
 // The bytes of a table, in fixed memory.
 pub type Table = ArrayVec<u8, 65536>;
 
+// The bytes of a choice, likewise.
+pub type Choice = ArrayVec<u8, 65536>;
+
 // What a line of a script says.
 #[derive(Clone, Copy)]
 pub enum Line<'a> {
@@ -68,16 +71,25 @@ impl<'a> Run<'a> {
         }
     }
 
-    // Its choice: 0 where no byte is given. By `push`, since a vector that is collected may find no room.
-    pub fn choice(&self) -> ArrayVec<u8, 65536>
+    // Its choice: 0 where no byte is given.
+    pub fn choice(&self) -> Choice
         ensures { length result.items ≡ self.now.length }
     {
         let mut choice = ArrayVec::new();
+        self.put_choice(&mut choice);
+        choice
+    }
+
+    // The same in the place of what was lent: a vector of its own for each run would take longer to make than most calls. By `push`, since a vector that is
+    // collected may find no room.
+    pub fn put_choice(&self, choice: &mut Choice)
+        ensures { length choice.new.items ≡ self.now.length }
+    {
+        choice.clear();
         let mut bytes = self.bytes;
         for _ in 0..self.length {
             choice.push(bytes.byte());
         }
-        choice
     }
 }
 

@@ -1,5 +1,6 @@
 // The calls of documents 01 and 02, with their answers as text. Each takes where it prints and what the call takes: a value of both would be made for one call.
-use report::{OLD_SIZE, OLD_VERDICT, Page, kept};
+use crate::Page;
+use report::{OLD_SIZE, OLD_VERDICT, kept};
 use sync::words::has;
 use table::check;
 

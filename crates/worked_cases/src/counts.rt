@@ -1,5 +1,5 @@
 // The work that calls take. The counts are held by stored output, and but for one not promised.
-use report::Page;
+use crate::Page;
 
 // In how many passes over the functions the synchronising set is found, the one that adds nothing among them. Where no function reaches itself by
 // calls, that there are two at most is promised.

@@ -9,14 +9,18 @@ mod names;
 use cases::{show_best, show_list, show_order, show_safety, show_sizes, show_sync};
 use counts::{show_passes, show_set_passes, show_trials};
 use names::Call;
-use report::{OLD_SIZE, OLD_VERDICT, Page};
-use script::{Failed, Line, Run, State, read_full};
+use report::{OLD_SIZE, OLD_VERDICT};
+use script::{Choice, Failed, Line, Run, State, read_full};
 use std::io;
 use std::io::Write;
 
+// What a line of a script makes the program print: there is room for the longest name in a script of 131,072 bytes, and behind it for the longest answer, 576
+// rows of at most 48 bytes.
+type Page = report::Page<163840>;
+
 // What a call answers to a run on this table. The buffers have room for the largest table and a tail, with old content.
-fn show_call(page: &mut Page, call: Call, t: &[u8], run: &Run<'_>) {
-    let choice = run.choice();
+fn show_call(page: &mut Page, call: Call, t: &[u8], run: &Run<'_>, choice: &mut Choice) {
+    run.put_choice(choice);
     let choice = choice.as_slice();
     let mut sizes = [OLD_SIZE; 2400];
     let sizes = &mut sizes[..usize::from(run.buffer).min(2400)];
@@ -38,7 +42,7 @@ fn show_call(page: &mut Page, call: Call, t: &[u8], run: &Run<'_>) {
 }
 
 // What a line of a script makes the program print: `! CALL` as a heading, and for a run `NAME: ` and what the call answers to it.
-fn show_line<'a>(page: &mut Page, state: &mut State<'a>, text: &'a [u8]) {
+fn show_line<'a>(page: &mut Page, state: &mut State<'a>, choice: &mut Choice, text: &'a [u8]) {
     let line = Line::read(text);
     state.take(&line);
     match &line {
@@ -51,7 +55,7 @@ fn show_line<'a>(page: &mut Page, state: &mut State<'a>, text: &'a [u8]) {
             page.bytes(state.name);
             page.text(": ");
             match Call::named(state.call) {
-                Some(call) => show_call(page, call, state.table.as_slice(), run),
+                Some(call) => show_call(page, call, state.table.as_slice(), run, choice),
                 None => page.text("no such call\n"),
             }
         }
@@ -63,9 +67,10 @@ fn show_line<'a>(page: &mut Page, state: &mut State<'a>, text: &'a [u8]) {
 fn run_script<W: Write>(out: &mut W, text: &[u8]) -> io::Result<()> {
     let mut state = State::new();
     let mut page = Page::new();
+    let mut choice = Choice::new();
     for line in text.split(|byte| *byte == b'\n') {
         page.clear();
-        show_line(&mut page, &mut state, line);
+        show_line(&mut page, &mut state, &mut choice, line);
         out.write_all(page.as_slice())?;
     }
     Ok(())
