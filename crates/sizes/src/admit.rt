@@ -47,6 +47,7 @@ fn judge(program: &Program<'_>, choice: &[u8], buffer: usize) -> Result<(), Refu
 }
 
 // Looks at a table: what it is refused for, or what is known of it.
+#[tactic(auto, using(crate::proofs::Calls::looked_result))]
 pub fn look(t: &[u8]) -> Result<Known<'_>, Refused>
     ensures answer { result_of result ≡ table_result t.now }
     ensures known { IfOk result (KnownFor t.now) }
